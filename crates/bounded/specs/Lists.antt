@@ -1,0 +1,19 @@
+-- What a bounded list holds, the empty one, and one item more.
+use mathlib.Core.Bool.{cond}
+use mathlib.Core.List.{List}
+use Prim.Native.Nat.{ℕ, _+_, min}
+use lib.Dec.{ltb}
+use lib.ListN.{length, take, set, replicate}
+use Rattle.bounded.specs.declared.bounded.Bounded.{Bounded}
+
+-- The items that a bounded list holds, in order.
+abbrev pub listed : {T : Type 0} {N : ℕ} → Bounded T N → List T
+listed b = take (min (b .count) (length (b .places))) (b .places)
+
+-- The list that holds nothing, with `blank` in every place.
+unfoldable pub empty-of : {T : Type 0} {N : ℕ} → T → Bounded T N
+empty-of {T} {N} blank = record { count = 0; places = replicate N blank }
+
+-- One item more at the end; a full list stays as it is.
+abbrev pub pushed : {T : Type 0} {N : ℕ} → Bounded T N → T → Bounded T N
+pushed {T} {N} b x = cond (ltb (b .count) N) (record { count = b .count + 1; places = set (b .places) (b .count) x }) b

@@ -1,0 +1,40 @@
+//! Making, growing and reading a bounded list.
+
+ghost use mathlib.Core.Path.{_≡_};
+ghost use lib.Dec.{ltb};
+ghost use Rattle.bounded.specs.Lists.{listed, empty-of, pushed};
+use crate::bounded::Bounded;
+
+impl<T: Copy, const N: usize> Bounded<T, N> {
+    /// A list that holds nothing; `blank` fills its places.
+    pub fn empty(blank: T) -> Self
+        ensures { λ r. ⌜ r ≡ empty-of blank ⌝ }
+    {
+        Bounded {
+            count: 0,
+            places: [blank; N],
+        }
+    }
+
+    /// The items, in order.
+    pub fn as_slice(&self) -> &[T]
+        ensures { λ r. ⌜ now r ≡ listed (now (self .entry)) ⌝ }
+    {
+        let places = &self.places[..];
+        &places[0..self.count.min(places.len())]
+    }
+
+    /// Adds an item at the end; answers false, and changes nothing, where the list is full.
+    pub fn push(&mut self, item: T) -> bool
+        ensures answer { λ r. ⌜ r ≡ ltb (now (self .entry) .count) N ⌝ }
+        ensures list { λ _. ⌜ now (self .exit) ≡ pushed (now (self .entry)) item ⌝ }
+    {
+        if self.count < N {
+            self.places[self.count] = item;
+            self.count += 1;
+            true
+        } else {
+            false
+        }
+    }
+}

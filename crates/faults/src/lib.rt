@@ -1,0 +1,3 @@
+//! What can be wrong with the bytes of an offered plan.
+
+pub mod fault;

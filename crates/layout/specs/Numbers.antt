@@ -1,0 +1,55 @@
+-- The numbers that kinds, preferences, sorts, marks and classes have in a plan file.
+use mathlib.Core.Bool.{Bool, true, false, cond}
+use Prim.Native.Nat.{ℕ, _+_, _/_, _%_}
+use lib.Dec.{eqb}
+use Rattle.layout.specs.declared.kind.Kind.{Kind}
+use Rattle.layout.specs.declared.kind.Kind.the-variants as kind
+use Rattle.layout.specs.declared.kind.Dual.{Dual}
+use Rattle.layout.specs.declared.kind.Dual.the-variants as dual
+use Rattle.layout.specs.declared.kind.Sort.{Sort}
+use Rattle.layout.specs.declared.kind.Sort.the-variants as sort
+use Rattle.layout.specs.declared.kind.Marks.{Marks}
+
+abbrev pub kind-number : Kind → ℕ
+kind-number kind.Track = 0
+kind-number kind.Point = 1
+kind-number kind.Derailer = 2
+kind-number kind.Signal = 3
+kind-number kind.PlanEnd = 4
+
+-- The kind with a number; the last one where no kind has it.
+abbrev pub kind-of : ℕ → Kind
+kind-of n =
+    cond (eqb n (kind-number kind.Track)) kind.Track
+    (cond (eqb n (kind-number kind.Point)) kind.Point
+    (cond (eqb n (kind-number kind.Derailer)) kind.Derailer
+    (cond (eqb n (kind-number kind.Signal)) kind.Signal kind.PlanEnd)))
+
+abbrev pub dual-number : Dual → ℕ
+dual-number dual.NoPreference = 0
+dual-number dual.PrefersPlus = 1
+dual-number dual.PrefersMinus = 2
+
+-- The preference with a number; the last one where none has it.
+abbrev pub dual-of : ℕ → Dual
+dual-of n =
+    cond (eqb n (dual-number dual.NoPreference)) dual.NoPreference
+    (cond (eqb n (dual-number dual.PrefersPlus)) dual.PrefersPlus dual.PrefersMinus)
+
+abbrev pub sort-number : Sort → ℕ
+sort-number sort.Shunting = 0
+sort-number sort.Train = 1
+sort-number sort.Entry = 2
+
+-- The sort with a number; the last one where none has it.
+abbrev pub sort-of : ℕ → Sort
+sort-of n =
+    cond (eqb n (sort-number sort.Shunting)) sort.Shunting
+    (cond (eqb n (sort-number sort.Train)) sort.Train sort.Entry)
+
+-- Marks are a sum: 1 for a signal requested at a flank, 2 for one whose lamp is spared.
+abbrev pub marks-number : Marks → ℕ
+marks-number m = cond (m .requested) 1 0 + cond (m .«lamp_spared») 2 0
+
+abbrev pub marks-of : ℕ → Marks
+marks-of n = record { requested = eqb (n % 2) 1; «lamp_spared» = eqb (n / 2 % 2) 1 }

@@ -1,0 +1,8 @@
+use borrow.Author.Needs.{needs}
+use Rattle.planbytes.proofs.reading.read_route.Needs as need
+
+pub returns : need.returns
+returns c = ?
+
+pub returns-in-Break-part : need.returns-in-Break-part
+returns-in-Break-part c = ?
