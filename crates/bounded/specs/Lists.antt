@@ -3,12 +3,12 @@ use mathlib.Core.Bool.{cond}
 use mathlib.Core.List.{List}
 use Prim.Native.Nat.{ℕ, _+_, min}
 use lib.Dec.{ltb}
-use lib.ListN.{length, take, set, replicate}
+use lib.ListN.{take, set, replicate}
 use Rattle.bounded.specs.declared.bounded.Bounded.{Bounded}
 
 -- The items that a bounded list holds, in order.
 abbrev pub listed : {T : Type 0} {N : ℕ} → Bounded T N → List T
-listed b = take (min (b .count) (length (b .places))) (b .places)
+listed {T} {N} b = take (min (b .count) N) (b .places)
 
 -- The list that holds nothing, with `blank` in every place.
 unfoldable pub empty-of : {T : Type 0} {N : ℕ} → T → Bounded T N

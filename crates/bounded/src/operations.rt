@@ -21,7 +21,7 @@ impl<T: Copy, const N: usize> Bounded<T, N> {
         ensures { λ r. ⌜ now r ≡ listed (now (self .entry)) ⌝ }
     {
         let places = &self.places[..];
-        &places[0..self.count.min(places.len())]
+        &places[0..self.count.min(N)]
     }
 
     /// Adds an item at the end; answers false, and changes nothing, where the list is full.

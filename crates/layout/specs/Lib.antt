@@ -2,3 +2,5 @@ pub mod Numbers
 pub mod Kinds
 pub mod Drawings
 pub mod Ports
+pub mod Every
+pub mod Ways

@@ -1,0 +1,4 @@
+pub mod Following
+pub mod Places
+pub mod Paths
+pub mod Overlaps

@@ -1,0 +1,3 @@
+pub mod ElementTests
+pub mod Checks
+pub mod Plans

@@ -1,0 +1,88 @@
+//! The checked plan.
+
+ghost use mathlib.Core.Path.{_≡_};
+ghost use mathlib.Core.Bool.{true};
+ghost use Rattle.std.specs.Vec.{made};
+ghost use Rattle.planbytes.specs.Bytes.{fault-in};
+ghost use Rattle.plan.specs.Plans.{is-sound, end-to, fresh-drawing, reading, drawing-after, fault-of};
+use crate::checking::check_drawing;
+use faults::fault::Fault;
+use layout::drawing::Drawing;
+use layout::element::Element;
+use layout::element::Join;
+use layout::kind::Kind;
+use planbytes::reading::drawn;
+
+/// A drawing that passed all checks.
+#[derive(Drop)]
+pub struct Plan {
+    drawing: Drawing,
+    ghost sound: { is-sound drawing ≡ true },
+}
+
+/// The drawing that bytes say, if it passes all checks.
+fn checked_drawing(bytes: &[u8]) -> Result<Drawing, Fault>
+    ensures value { λ r. ⌜ r ≡ reading (now (bytes .entry)) ⌝ }
+    ensures sound { λ r. ⌜ made r (λ d. is-sound d ≡ true) ⌝ }
+{
+    let drawing = drawn(bytes)?;
+    check_drawing(&drawing)?;
+    Ok(drawing)
+}
+
+/// A plan end joined to another one.
+fn end_to(number: u8) -> Element
+    ensures { λ r. ⌜ r ≡ end-to number ⌝ }
+{
+    Element {
+        kind: Kind::PlanEnd,
+        joins: [
+            Some(Join {
+                element: number,
+                port: 0,
+            }),
+            None,
+            None,
+        ],
+        section: None,
+        dual: None,
+        sort: None,
+        marks: None,
+    }
+}
+
+fn two_ends() -> Drawing
+    ensures { λ r. ⌜ r ≡ fresh-drawing ⌝ }
+{
+    let mut drawing = Drawing::blank();
+    drawing.elements.push(end_to(1));
+    drawing.elements.push(end_to(0));
+    drawing
+}
+
+impl Plan {
+    /// A plan of two plan ends joined to each other, with no route.
+    pub fn fresh() -> Plan
+        ensures { λ r. ⌜ r .drawing ≡ fresh-drawing ⌝ }
+    {
+        Plan {
+            drawing: two_ends(),
+        }
+    }
+
+    /// The elements and routes of the plan.
+    pub fn drawing(&self) -> &Drawing
+        ensures { λ r. ⌜ now r ≡ now (self .entry) .drawing ⌝ }
+    {
+        &self.drawing
+    }
+
+    /// Takes up what the bytes draw; on a fault the plan keeps its content.
+    pub fn read(&mut self, bytes: &[u8]) -> Result<(), Fault>
+        ensures answer { λ r. ⌜ fault-in r ≡ fault-of (reading (now (bytes .entry))) ⌝ }
+        ensures drawing { λ r. ⌜ now (self .exit) .drawing ≡ drawing-after (reading (now (bytes .entry))) (now (self .entry) .drawing) ⌝ }
+    {
+        self.drawing = checked_drawing(bytes)?;
+        Ok(())
+    }
+}
