@@ -4,3 +4,4 @@ pub mod Drawings
 pub mod Ports
 pub mod Every
 pub mod Ways
+pub mod Sound

@@ -2,7 +2,7 @@
 use mathlib.Core.Path.{_≡_}
 use mathlib.Core.List.{List}
 use mathlib.Core.Logic.{_≢_, _⊎_}
-use Prim.Native.Nat.{ℕ, _+_, _<_}
+use Prim.Native.Nat.{ℕ, suc, _<_}
 use lib.ListN.{length, getD}
 use Rattle.std.specs.declared.option.Option.{Option}
 use Rattle.std.specs.declared.option.Option.the-variants.{Some, None}
@@ -33,5 +33,5 @@ Turns k entered left = (left ≢ entered) × (k ≡ kind.Point → (entered ≡ 
 pub record Runs (es : List Element) (way : List ℕ) : Type 0 where
   pub enters : ℕ → ℕ
   pub leaves : ℕ → ℕ
-  pub joins : (k : ℕ) → k + 1 < length way → joined es (place way k) (leaves k) ≡ Some (port (place way (k + 1)) (enters (k + 1)))
-  pub turns : (k : ℕ) → 0 < k → k + 1 < length way → Turns (kind-at es way k) (enters k) (leaves k)
+  pub joins : (k : ℕ) → suc k < length way → joined es (place way k) (leaves k) ≡ Some (port (place way (suc k)) (enters (suc k)))
+  pub turns : (k : ℕ) → 0 < k → suc k < length way → Turns (kind-at es way k) (enters k) (leaves k)

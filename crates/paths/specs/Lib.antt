@@ -2,3 +2,4 @@ pub mod Following
 pub mod Places
 pub mod Paths
 pub mod Overlaps
+pub mod Sound

@@ -29,7 +29,8 @@ fn element_size(map: u8) -> usize
     ensures low { λ r. ⌜ 0 < r ⌝ }
     ensures bound { λ r. ⌜ r ≤ 12 ⌝ }
 {
-    1 + field_width(map, 0, 1)
+    1
+        + field_width(map, 0, 1)
         + field_width(map, 1, 2)
         + field_width(map, 2, 2)
         + field_width(map, 3, 2)
