@@ -1,6 +1,5 @@
 use mathlib.Core.Path.{_≡_}
 use Prim.Native.Nat.{_-_}
-
 use Rattle.planbytes.specs.Bytes.{times}
 use Rattle.planbytes.specs.Files.{route-step}
 use Rattle.planbytes.proofs.reading.read_routes.Given as given
