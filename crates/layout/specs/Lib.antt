@@ -5,3 +5,4 @@ pub mod Ports
 pub mod Every
 pub mod Ways
 pub mod Sound
+pub mod Uses
