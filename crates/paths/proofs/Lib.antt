@@ -1,1 +1,3 @@
 mod FollowTurn
+mod StepsExact
+mod PlacesExact
