@@ -1,1 +1,3 @@
 pub mod EveryTurn
+pub mod JoinPorts
+pub mod KindTests

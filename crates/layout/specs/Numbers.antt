@@ -9,6 +9,8 @@ use Rattle.layout.specs.declared.kind.Dual.the-variants as dual
 use Rattle.layout.specs.declared.kind.Sort.{Sort}
 use Rattle.layout.specs.declared.kind.Sort.the-variants as sort
 use Rattle.layout.specs.declared.kind.Marks.{Marks}
+use Rattle.layout.specs.declared.route.RouteClass.{RouteClass}
+use Rattle.layout.specs.declared.route.RouteClass.the-variants as class
 
 abbrev pub kind-number : Kind → ℕ
 kind-number kind.Track = 0
@@ -53,3 +55,12 @@ marks-number m = cond (m .requested) 1 0 + cond (m .«lamp_spared») 2 0
 
 abbrev pub marks-of : ℕ → Marks
 marks-of n = record { requested = eqb (n % 2) 1; «lamp_spared» = eqb (n / 2 % 2) 1 }
+
+-- A shunting route, whose number is 0, is told in a file by the absence of the class field.
+abbrev pub class-number : RouteClass → ℕ
+class-number class.Shunting = 0
+class-number class.Train = 1
+
+-- The class with a number; the last one where none has it.
+abbrev pub class-of : ℕ → RouteClass
+class-of n = cond (eqb n (class-number class.Shunting)) class.Shunting class.Train

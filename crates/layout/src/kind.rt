@@ -69,7 +69,7 @@ impl Kind {
     }
 }
 
-/// The position in which a point with the dual field may shield.
+/// The position that a point with the dual field prefers: it may shield in that one only.
 #[derive(Clone, Copy)]
 pub enum Dual {
     NoPreference,

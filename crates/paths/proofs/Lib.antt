@@ -1,3 +1,5 @@
 mod FollowTurn
 mod StepsExact
 mod PlacesExact
+pub mod PathsExact
+pub mod OverlapsExact

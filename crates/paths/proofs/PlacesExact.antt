@@ -18,6 +18,7 @@ use Rattle.layout.specs.Kinds.{is-signal}
 use Rattle.layout.specs.Ports.{at}
 use Rattle.layout.specs.Ways.{place, kind-at}
 use Rattle.layout.proofs.EveryTurn.{every-each, every-from, every-not}
+use Rattle.layout.proofs.KindTests.{signal-test}
 use Rattle.paths.specs.Places.{differs, lacks, is-within, are-within, is-new, are-new, is-passed-signal, are-signals-between}
 use Rattle.paths.specs.Sound.{Within, Once}
 
@@ -58,19 +59,6 @@ new-from before way a o =
     every-from (is-new before way) (length way) 0 (λ k l m.
     and-from _ _ (lacks-from before (length before) (getD way k 0) (λ j h. a j k h (omega arith))) (lacks-from way k (getD way k 0) (λ j h. o j k h (omega arith))))
 
-signal-is : (k : Kind) → is-signal k ≡ true → k ≡ kind.Signal
-signal-is kind.Signal t = refl
-signal-is kind.Track t = cc
-signal-is kind.Point t = cc
-signal-is kind.Derailer t = cc
-signal-is kind.PlanEnd t = cc
-
-pub signal-test : (k : Kind) → is-signal k ≡ true → k ≡ kind.Signal
-signal-test = signal-is
-
-pub no-signal-from : (k : Kind) → k ≢ kind.Signal → is-signal k ≡ false
-no-signal-from k n = elim (cases-bool (is-signal k)) [ inl t ↦ absurd (n (signal-is k t)) | inr f ↦ f ]
-
 -- some element strictly between the first and the last of a way is no signal
 abbrev pub Body : List Element → List ℕ → Type 0
 Body es way = (k : ℕ) × (0 < k) × (suc k < length way) × (kind-at es way k ≢ kind.Signal)
@@ -82,11 +70,11 @@ pub body-sound : (es : List Element) (way : List ℕ) → not (are-signals-betwe
 unfolding are-signals-between
 body-sound es way t =
     let r : (j : ℕ) × (0 ≤ j) × (j < 0 + (length way - 2)) × (is-passed-signal es way j ≡ false)
-        = every-not (is-passed-signal es way) (length way - 2) 0 (not-true _ t) in
+    = every-not (is-passed-signal es way) (length way - 2) 0 (not-true _ t) in
     (r .0 + 1, omega arith, omega (arith, r .2), no-signal (at es (getD way (r .0 + 1) 0) .kind) (r .3))
 
 passed-at : (es : List Element) (way : List ℕ) (j k : ℕ) → j + 1 ≡ k → is-passed-signal es way j ≡ true → kind-at es way k ≡ kind.Signal
-passed-at es way j k e t = signal-is (kind-at es way k) (sym (ap (λ (n : ℕ). is-signal (at es (getD way n 0) .kind)) e) ∙ t)
+passed-at es way j k e t = signal-test (kind-at es way k) (sym (ap (λ (n : ℕ). is-signal (at es (getD way n 0) .kind)) e) ∙ t)
 
 pub body-from : (es : List Element) (way : List ℕ) → Body es way → not (are-signals-between es way) ≡ true
 unfolding are-signals-between

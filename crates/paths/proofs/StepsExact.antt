@@ -7,7 +7,7 @@ use Prim.Native.Nat.{ℕ, zero, suc, _<_, _≤_}
 use native.Mathlib.Omega.{arith}
 use lib.Dec.{ltb, eqb}
 use lib.ListN.{length, getD}
-use Rattle.std.proofs.shelf.Tests.{and-parts, and-from, or-cases, or-left, or-right, not-true, not-from-false, eqb-true, eqb-false, eq-eqb, ne-eqb, ltb-true, lt-ltb, le-ltb, cases-lt}
+use Rattle.std.proofs.shelf.Tests.{and-parts, and-from, or-cases, or-left, or-right, not-true, not-from-false, eqb-true, eqb-false, eq-eqb, ne-eqb, ltb-true, lt-ltb}
 use Rattle.std.specs.declared.option.Option.{Option}
 use Rattle.std.specs.declared.option.Option.the-variants.{Some, None}
 use Rattle.layout.specs.declared.element.Element.{Element}
@@ -18,10 +18,8 @@ use Rattle.layout.specs.Kinds.{ports, is-point}
 use Rattle.layout.specs.Ports.{at, join-of, joined}
 use Rattle.layout.specs.Sound.{WellJoined}
 use Rattle.layout.specs.Ways.{port, place, Turns}
+use Rattle.layout.proofs.JoinPorts.{some-apart, low-cases, joined-low}
 use Rattle.paths.specs.Following.{turns, exit-over, exit, or-else, step, and-on, follows}
-
-some-apart : {X : Type 0} {x : X} → _≡_ {A = Option X} None (Some x) → ⊥
-some-apart e = let z : _≡_ {A = ℕ} 0 1 = cc in omega arith
 
 point-is : (k : Kind) → k ≡ kind.Point → is-point k ≡ true
 point-is k e = rw e
@@ -30,13 +28,16 @@ point-is k e = rw e
 pub turns-sound : (k : Kind) (entered left : ℕ) → turns k entered left ≡ true → (left < ports k) × Turns k entered left
 turns-sound k entered left t =
     let a : (ltb left (ports k) ≡ true) × ((not (eqb left entered) && (not (is-point k) || (eqb entered 0 || eqb left 0))) ≡ true) = and-parts _ _ t in
-    let b : (not (eqb left entered) ≡ true) × ((not (is-point k) || (eqb entered 0 || eqb left 0)) ≡ true) = and-parts _ _ (a .1) in
-    (ltb-true left (ports k) (a .0),
-    (eqb-false left entered (not-true _ (b .0)),
-    λ e. elim (or-cases (not (is-point k)) _ (b .1)) [
-      | inl n ↦ let z : _≡_ {A = Bool} true false = sym (point-is k e) ∙ not-true _ n in absurd (let w : _≡_ {A = ℕ} 0 1 = cc in omega arith)
-      | inr o ↦ elim (or-cases (eqb entered 0) _ o) [ inl x ↦ inl (eqb-true entered 0 x) | inr y ↦ inr (eqb-true left 0 y) ]
-    ]))
+    let b : (not (eqb left entered) ≡ true) × ((not (is-point k) || (eqb entered 0 || eqb left 0)) ≡ true) = and-parts _ _ (a .1) in (
+      ltb-true left (ports k) (a .0),
+      (
+        eqb-false left entered (not-true _ (b .0)),
+        λ e. elim (or-cases (not (is-point k)) _ (b .1)) [
+          | inl n ↦ let z : _≡_ {A = Bool} true false = sym (point-is k e) ∙ not-true _ n in absurd (let w : _≡_ {A = ℕ} 0 1 = cc in omega arith)
+          | inr o ↦ elim (or-cases (eqb entered 0) _ o) [ inl x ↦ inl (eqb-true entered 0 x) | inr y ↦ inr (eqb-true left 0 y) ]
+        ],
+      ),
+    )
 
 toe-test : (k : Kind) (entered left : ℕ) → (k ≡ kind.Point → (entered ≡ 0) ⊎ (left ≡ 0)) → (not (is-point k) || (eqb entered 0 || eqb left 0)) ≡ true
 toe-test kind.Track entered left h = refl
@@ -83,7 +84,7 @@ pub record Exits (es : List Element) (from entered next p : ℕ) : Type 0 where
 exits-by : (es : List Element) (from entered next p left : ℕ) → exit es from entered next left ≡ Some p → Exits es from entered next p
 exits-by es from entered next p left e =
     let s : (joined es from left ≡ Some (port next p)) × (turns (at es from .kind) entered left ≡ true)
-        = exit-over-sound (joined es from left) next (turns (at es from .kind) entered left) p e in
+    = exit-over-sound (joined es from left) next (turns (at es from .kind) entered left) p e in
     record { by = left; over = s .0; sound = s .1 }
 
 pub step-sound : (es : List Element) (from entered next p : ℕ) → step es from entered next ≡ Some p → Exits es from entered next p
@@ -91,9 +92,9 @@ unfolding step
 step-sound es from entered next p e =
     elim (or-else-cases (or-else (exit es from entered next 0) (exit es from entered next 1)) (exit es from entered next 2) p e) [
       | inl f ↦ elim (or-else-cases (exit es from entered next 0) (exit es from entered next 1) p f) [
-          | inl g ↦ exits-by es from entered next p 0 g
-          | inr g ↦ exits-by es from entered next p 1 g
-        ]
+        | inl g ↦ exits-by es from entered next p 0 g
+        | inr g ↦ exits-by es from entered next p 1 g
+      ]
       | inr f ↦ exits-by es from entered next p 2 f
     ]
 
@@ -107,21 +108,9 @@ either-of a b c p (inl x) (inl y) (inl z) (inl w) = absurd (some-apart (sym x �
 either-of a b c p (inl x) (inl y) (inl z) (inr (inl w)) = absurd (some-apart (sym y ∙ w))
 either-of a b c p (inl x) (inl y) (inl z) (inr (inr w)) = absurd (some-apart (sym z ∙ w))
 
-joined-low : (es : List Element) (e p : ℕ) (j : Join) → joined es e p ≡ Some j → p < 3
-joined-low es e p j h = elim (cases-lt p 3) [
-    | inl l ↦ l
-    | inr g ↦ let t : ltb p 3 ≡ false = le-ltb p 3 g in absurd (some-apart (rw t at h))
-  ]
-
 abbrev port-in : Option Join → Option ℕ
 port-in None = None
 port-in (Some j) = Some (j .port)
-
-low-cases : (n : ℕ) → n < 3 → (n ≡ 0) ⊎ ((n ≡ 1) ⊎ (n ≡ 2))
-low-cases zero h = inl refl
-low-cases (suc zero) h = inr (inl refl)
-low-cases (suc (suc zero)) h = inr (inr refl)
-low-cases (suc (suc (suc n))) h = absurd (omega arith)
 
 -- at most one join between two elements, so each exit to the next one is nothing or the same
 module _ (es : List Element) (well : WellJoined es) (from entered next p by : ℕ) (known : from < length es)
@@ -130,7 +119,7 @@ module _ (es : List Element) (well : WellJoined es) (from entered next p by : �
   exit-either left None e = inl refl
   exit-either left (Some q) e =
       let x : (joined es from left ≡ Some (port next q)) × (turns (at es from .kind) entered left ≡ true)
-          = exit-over-sound (joined es from left) next (turns (at es from .kind) entered left) q e in
+      = exit-over-sound (joined es from left) next (turns (at es from .kind) entered left) q e in
       let same : left ≡ by = well .once from left by (port next q) (port next p) known (x .0) over refl in
       let both : Some (port next q) ≡ Some (port next p) = sym (x .0) ∙ ap (λ (n : ℕ). joined es from n) same ∙ over in
       inr (ap port-in both)
@@ -213,4 +202,4 @@ follows-from es well from entered (next ∷ rest) enters leaves within first joi
     let s : step es from entered next ≡ Some (enters 1) = step-from es well from entered next (enters 1) (leaves 0) (within 0 (omega arith)) (joins 0 (omega arith)) t in
     ap (λ (o : Option ℕ). and-on o (λ p. follows es next p rest)) s
     ∙ follows-from es well next (enters 1) rest (λ k. enters (suc k)) (λ k. leaves (suc k))
-      (λ k h. within (suc k) (omega arith)) refl (λ k h. joins (suc k) (omega arith)) (λ k h. turned (suc k) (omega arith))
+    (λ k h. within (suc k) (omega arith)) refl (λ k h. joins (suc k) (omega arith)) (λ k h. turned (suc k) (omega arith))

@@ -1,6 +1,6 @@
--- Sound paths and overlaps in the words of the subject, and the theorems that the tests are exactly these.
+-- Sound paths and overlaps in the words of the subject.
 use mathlib.Core.Path.{_≡_}
-use mathlib.Core.Bool.{Bool, true, false}
+use mathlib.Core.Bool.{true, false}
 use mathlib.Core.List.{List, _∷_}
 use mathlib.Core.Logic.{_≢_, _⊎_}
 use Prim.Native.Nat.{ℕ, suc, _-_, _<_}
@@ -17,10 +17,7 @@ use Rattle.layout.specs.declared.route.Route.{Route}
 use Rattle.layout.specs.declared.route.RouteClass.{RouteClass}
 use Rattle.layout.specs.declared.route.RouteClass.the-variants as class
 use Rattle.layout.specs.Ports.{at}
-use Rattle.layout.specs.Sound.{SoundElements}
 use Rattle.layout.specs.Ways.{place, kind-at, Runs}
-use Rattle.paths.specs.Paths.{is-path, has-path}
-use Rattle.paths.specs.Overlaps.{is-overlap, is-overlap-allowed}
 
 -- The sorts of signal at which a route of a class may start.
 pub data Starts : RouteClass → Sort → Type 0 where
@@ -80,15 +77,3 @@ pub data AllowedOverlap (es : List Element) (r : Route) : Type 0 where
   zero-overlap : r .class ≡ class.Train → r .overlap ≡ None → r .«zero_overlap» ≡ true → AllowedOverlap es r
   some-overlap : (path : Bounded ℕ 24) (overlap : Bounded ℕ 8) → r .class ≡ class.Train → r .«zero_overlap» ≡ false
       → r .path ≡ Some path → r .overlap ≡ Some overlap → SoundOverlap es (listed path) (listed overlap) → AllowedOverlap es r
-
--- On sound elements the test of a path passes exactly the sound paths.
-abbrev pub Paths-exact : Type 0
-Paths-exact =
-    (es : List Element) (r : Route) → SoundElements es
-    → (has-path es r ≡ true → HasSoundPath es r) × (HasSoundPath es r → has-path es r ≡ true)
-
--- On sound elements the test of overlaps passes exactly the allowed ones.
-abbrev pub Overlaps-exact : Type 0
-Overlaps-exact =
-    (es : List Element) (r : Route) → SoundElements es → HasSoundPath es r
-    → (is-overlap-allowed es r ≡ true → AllowedOverlap es r) × (AllowedOverlap es r → is-overlap-allowed es r ≡ true)

@@ -11,7 +11,7 @@ use layout::route::Route;
 use layout::route::RouteClass;
 
 /// Whether elements in a row are a sound overlap beyond the end of a path.
-pub fn is_sound_overlap(elements: &[Element], path: &[u8], overlap: &[u8]) -> bool
+fn is_sound_overlap(elements: &[Element], path: &[u8], overlap: &[u8]) -> bool
     ensures { λ r. ⌜ r ≡ is-overlap (now (elements .entry)) (now (path .entry)) (now (overlap .entry)) ⌝ }
 {
     if path.len() == 0 || overlap.len() == 0 {

@@ -1,7 +1,6 @@
 //! The path of a route.
 
 ghost use mathlib.Core.Path.{_≡_};
-ghost use mathlib.Core.Bool.{true};
 ghost use Prim.Native.Nat.{_<_};
 ghost use lib.ListN.{length};
 ghost use Rattle.paths.specs.Paths.{may-start, is-start, may-end, is-end, is-path, has-path};
@@ -59,7 +58,7 @@ fn ends_soundly(elements: &[Element], path: &[u8]) -> bool
 }
 
 /// Whether elements in a row are a sound path for a route of a class.
-pub fn is_sound_path(elements: &[Element], class: RouteClass, path: &[u8]) -> bool
+fn is_sound_path(elements: &[Element], class: RouteClass, path: &[u8]) -> bool
     ensures { λ r. ⌜ r ≡ is-path (now (elements .entry)) class (now (path .entry)) ⌝ }
 {
     path.len() > 2

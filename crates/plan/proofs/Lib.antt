@@ -1,1 +1,4 @@
 mod FirstTurn
+mod FieldsExact
+mod JoinsExact
+mod PlansExact

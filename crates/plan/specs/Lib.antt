@@ -1,3 +1,4 @@
 pub mod ElementTests
 pub mod Checks
 pub mod Plans
+pub mod Sound

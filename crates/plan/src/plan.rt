@@ -5,6 +5,7 @@ ghost use mathlib.Core.Bool.{true};
 ghost use Rattle.std.specs.Vec.{made};
 ghost use Rattle.planbytes.specs.Bytes.{fault-in};
 ghost use Rattle.plan.specs.Plans.{is-sound, end-to, fresh-drawing, reading, drawing-after, fault-of};
+ghost use Rattle.plan.specs.Sound.{SoundPlan, Checks-exact};
 use crate::checking::check_drawing;
 use faults::fault::Fault;
 use layout::drawing::Drawing;
@@ -72,7 +73,8 @@ impl Plan {
 
     /// The elements and routes of the plan.
     pub fn drawing(&self) -> &Drawing
-        ensures { λ r. ⌜ now r ≡ now (self .entry) .drawing ⌝ }
+        ensures drawing { λ r. ⌜ now r ≡ now (self .entry) .drawing ⌝ }
+        ensures sound { λ r. ⌜ SoundPlan (now r) ⌝ }
     {
         &self.drawing
     }
@@ -80,7 +82,9 @@ impl Plan {
     /// Takes up what the bytes draw; on a fault the plan keeps its content.
     pub fn read(&mut self, bytes: &[u8]) -> Result<(), Fault>
         ensures answer { λ r. ⌜ fault-in r ≡ fault-of (reading (now (bytes .entry))) ⌝ }
-        ensures drawing { λ r. ⌜ now (self .exit) .drawing ≡ drawing-after (reading (now (bytes .entry))) (now (self .entry) .drawing) ⌝ }
+        ensures drawing { λ _. ⌜ now (self .exit) .drawing ≡ drawing-after (reading (now (bytes .entry))) (now (self .entry) .drawing) ⌝ }
+        ensures sound { λ _. ⌜ SoundPlan (now (self .exit) .drawing) ⌝ }
+        ensures exact { λ _. ⌜ Checks-exact ⌝ }
     {
         self.drawing = checked_drawing(bytes)?;
         Ok(())

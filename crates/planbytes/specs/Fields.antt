@@ -20,7 +20,7 @@ use Rattle.layout.specs.declared.kind.Marks.{Marks}
 use Rattle.layout.specs.declared.route.Route.{Route}
 use Rattle.layout.specs.declared.route.RouteClass.{RouteClass}
 use Rattle.layout.specs.declared.route.RouteClass.the-variants as class
-use Rattle.layout.specs.Numbers.{kind-of, dual-of, sort-of, marks-of}
+use Rattle.layout.specs.Numbers.{kind-of, dual-of, sort-of, marks-of, class-of}
 use Rattle.planbytes.specs.Bytes.{and-then, times, byte-at, byte-in}
 
 -- Whether a bit of a map stands, counted from the lowest, bit 0.
@@ -88,7 +88,7 @@ numbers-if map bit low high o bs p =
 -- No class field means a shunting route.
 abbrev pub class-in : Option ℕ → RouteClass
 class-in None = class.Shunting
-class-in (Some n) = class.Train
+class-in (Some n) = class-of n
 
 abbrev pub is-there : {X : Type 0} → Option X → Bool
 is-there None = false

@@ -66,7 +66,7 @@ fn class_of(number: Option<u8>) -> RouteClass
     ensures { λ r. ⌜ r ≡ class-in number ⌝ }
 {
     match number {
-        Some(_) => RouteClass::Train,
+        Some(number) => RouteClass::of(number),
         None => RouteClass::Shunting,
     }
 }
