@@ -10,9 +10,13 @@ use Rattle.bounded.specs.declared.bounded.Bounded.{Bounded}
 abbrev pub listed : {T : Type 0} {N : ℕ} → Bounded T N → List T
 listed {T} {N} b = take (min (b .count) N) (b .places)
 
+-- A table with one item in all its N places.
+unfoldable pub blanks : {T : Type 0} → ℕ → T → List T
+blanks n blank = replicate n blank
+
 -- The list that holds nothing, with `blank` in every place.
-unfoldable pub empty-of : {T : Type 0} {N : ℕ} → T → Bounded T N
-empty-of {T} {N} blank = record { count = 0; places = replicate N blank }
+abbrev pub empty-of : {T : Type 0} {N : ℕ} → T → Bounded T N
+empty-of {T} {N} blank = record { count = 0; places = blanks N blank }
 
 -- One item more at the end; a full list stays as it is.
 abbrev pub pushed : {T : Type 0} {N : ℕ} → Bounded T N → T → Bounded T N

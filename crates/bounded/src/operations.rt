@@ -2,8 +2,15 @@
 
 ghost use mathlib.Core.Path.{_≡_};
 ghost use lib.Dec.{ltb};
-ghost use Rattle.bounded.specs.Lists.{listed, empty-of, pushed};
+ghost use Rattle.bounded.specs.Lists.{listed, blanks, empty-of, pushed};
 use crate::bounded::Bounded;
+
+/// A table with one item in all places.
+fn blank_places<T: Copy, const N: usize>(blank: T) -> [T; N]
+    ensures { λ r. ⌜ r ≡ blanks N blank ⌝ }
+{
+    [blank; N]
+}
 
 impl<T: Copy, const N: usize> Bounded<T, N> {
     /// A list that holds nothing; `blank` fills its places.
@@ -12,7 +19,7 @@ impl<T: Copy, const N: usize> Bounded<T, N> {
     {
         Bounded {
             count: 0,
-            places: [blank; N],
+            places: blank_places(blank),
         }
     }
 

@@ -18,7 +18,7 @@ abbrev pub no-route : Route
 no-route = record { class = class.Shunting; path = None; overlap = None; «zero_overlap» = false }
 
 -- A drawing with no element and no route.
-unfoldable pub no-drawing : Drawing
+abbrev pub no-drawing : Drawing
 no-drawing = record { elements = empty-of no-element; routes = empty-of no-route }
 
 -- One element more, with the next number.

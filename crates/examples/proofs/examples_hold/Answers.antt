@@ -1,6 +1,5 @@
 use mathlib.Core.Path.{refl}
-use Rattle.bounded.specs.Lists.{empty-of}
-use Rattle.layout.specs.Drawings.{no-drawing}
+use Rattle.bounded.specs.Lists.{blanks}
 use Rattle.paths.specs.Following.{step}
 use Rattle.paths.specs.Places.{lacks, are-within, are-new, are-signals-between}
 use Rattle.paths.specs.Paths.{is-end, is-path}
@@ -12,7 +11,7 @@ use Rattle.examples.specs.Worked.{Worked-examples}
 use Rattle.examples.proofs.examples_hold.Needs as need
 
 holds : Worked-examples
-unfolding empty-of no-drawing step lacks are-within are-new are-signals-between is-end is-path element-step route-step has-its-fields are-joins-sound element-fault elements-fault route-fault routes-fault reading
+unfolding blanks step lacks are-within are-new are-signals-between is-end is-path element-step route-step has-its-fields are-joins-sound element-fault elements-fault route-fault routes-fault reading
 holds = (refl, refl, refl, refl, refl)
 
 pub returns : need.returns

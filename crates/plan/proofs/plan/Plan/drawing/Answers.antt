@@ -3,4 +3,4 @@ use Rattle.plan.proofs.PlansExact.{checks-exact}
 use Rattle.plan.proofs.plan.Plan.drawing.Needs as need
 
 pub returns : need.returns
-returns c = record { drawing = refl; sound = checks-exact (c .args .self .now .drawing) .0 (c .args .self .now .sound) }
+returns c = record { drawing = refl; sound = checks-exact (c .args .self .now .drawing) .0 (c .args .self .now .sound); exact = checks-exact }
