@@ -15,7 +15,8 @@ pub enum HexFault {
 impl HexFault {
     pub fn words(self) -> &'static str {
         match self {
-            HexFault::NoDigit => "a byte is written in hexadecimal digits, and between bytes stand only blanks and bars",
+            HexFault::NoDigit =>
+                "a byte is written in hexadecimal digits, and between bytes stand only blanks and bars",
             HexFault::HalfByte => "a byte has two digits",
         }
     }

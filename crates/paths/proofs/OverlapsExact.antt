@@ -43,7 +43,6 @@ some-of None e = absurd (true≢false (sym e))
 some-of (Some p) e = (p, refl)
 
 overlap-sound : (es : List Element) (path overlap : List ℕ) → is-overlap es path overlap ≡ true → SoundOverlap es path overlap
-unfolding is-overlap
 overlap-sound es path overlap e =
     let from : ℕ = place path (last path) in
     let a = and-parts (ltb 0 (length path)) _ e in
@@ -76,7 +75,6 @@ all-within es from overlap known within (suc k) h = within k (omega arith)
 
 overlap-from : (es : List Element) → SoundElements es → (path overlap : List ℕ) → place path (last path) < length es
     → SoundOverlap es path overlap → is-overlap es path overlap ≡ true
-unfolding is-overlap
 overlap-from es sound path overlap known s =
     let from : ℕ = place path (last path) in
     let walked : follows es from 0 overlap ≡ Some (s .runs .enters (length overlap))

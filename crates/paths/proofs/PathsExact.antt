@@ -115,7 +115,6 @@ end-at-sound k None e = absurd (true≢false (sym e))
 end-at-sound k (Some p) e = (p, refl, e)
 
 path-sound : (es : List Element) (c : RouteClass) (path : List ℕ) → is-path es c path ≡ true → SoundPath es c path
-unfolding is-path is-end
 path-sound es c [] e = absurd (true≢false (sym e))
 path-sound es c (from ∷ rest) e =
     let path : List ℕ = from ∷ rest in
@@ -143,7 +142,6 @@ path-sound es c (from ∷ rest) e =
     }
 
 path-from : (es : List Element) → SoundElements es → (c : RouteClass) (path : List ℕ) → SoundPath es c path → is-path es c path ≡ true
-unfolding is-path is-end
 path-from es sound c [] s = absurd (let h : suc (s .body .0) < 0 = s .body .2 in let none : ⊥ = omega arith in none)
 path-from es sound c (from ∷ rest) s =
     let path : List ℕ = from ∷ rest in

@@ -20,7 +20,7 @@ use Rattle.paths.specs.Places.{are-within, are-new}
 
 -- Elements in a row are a sound overlap beyond the end of a path: it ends at a signal, the way goes on from there,
 -- repeats no element of itself or of the path, and does not end at a point.
-unfoldable pub is-overlap : List Element → List ℕ → List ℕ → Bool
+abbrev pub is-overlap : List Element → List ℕ → List ℕ → Bool
 is-overlap es path overlap =
     ltb 0 (length path)
     && (ltb 0 (length overlap)

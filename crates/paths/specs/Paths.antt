@@ -47,11 +47,11 @@ is-end-at k None = false
 is-end-at k (Some entered) = may-end k entered
 
 -- The way can be followed from its first element, left as if it had been entered at port 0, to an element at which it may end.
-unfoldable pub is-end : List Element → List ℕ → Bool
+abbrev pub is-end : List Element → List ℕ → Bool
 is-end es path = is-end-at (at es (getD path (length path - 1) 0) .kind) (follows es (getD path 0 0) 0 (drop 1 path))
 
 -- Elements in a row are a sound path for a route of a class.
-unfoldable pub is-path : List Element → RouteClass → List ℕ → Bool
+abbrev pub is-path : List Element → RouteClass → List ℕ → Bool
 is-path es c path =
     ltb 2 (length path)
     && (are-within es path

@@ -88,7 +88,6 @@ only-from true holds h = h refl
 only-from false holds h = refl
 
 pub fields-sound : (e : Element) → has-its-fields e ≡ true → HasItsFields e
-unfolding has-its-fields
 fields-sound e t =
     let a = and-parts (are-joins-its-own e) _ t in
     let b = and-parts (are-fields-needed e) _ (a .1) in
@@ -104,7 +103,6 @@ fields-sound e t =
     }
 
 pub fields-from : (e : Element) → HasItsFields e → has-its-fields e ≡ true
-unfolding has-its-fields
 fields-from e f =
     and-from _ _ (and-from _ _ (port-agrees e f 0) (and-from _ _ (port-agrees e f 1) (port-agrees e f 2)))
     (and-from _ _ (and-from _ _ (agree-from _ _ (f .section)) (agree-from _ _ (f .sort)))

@@ -81,7 +81,6 @@ module _ (es : List Element) (e : ℕ) (t : are-joins-sound es e ≡ true) where
 
   parts : (is-join-sound es e 0 (J 0) ≡ true) × (is-join-sound es e 1 (J 1) ≡ true) × (is-join-sound es e 2 (J 2) ≡ true)
       × (are-apart (J 0) (J 1) ≡ true) × (are-apart (J 0) (J 2) ≡ true) × (are-apart (J 1) (J 2) ≡ true)
-  unfolding are-joins-sound
   parts =
       let a = and-parts (is-join-sound es e 0 (J 0)) _ t in
       let b = and-parts (is-join-sound es e 1 (J 1)) _ (a .1) in
@@ -127,7 +126,6 @@ module _ (es : List Element) (e : ℕ) (t : are-joins-sound es e ≡ true) where
   joins-at = record { each = each-sound; once = once-sound }
 
 joins-test : (es : List Element) (e : ℕ) → SoundJoins es e → are-joins-sound es e ≡ true
-unfolding are-joins-sound
 joins-test es e s =
     and-from _ _ (join-from es e 0 (joined es e 0) (s .each 0))
     (and-from _ _ (join-from es e 1 (joined es e 1) (s .each 1))

@@ -46,17 +46,17 @@ met-from met c place e = rw e
 
 -- one demand over all elements
 all-meet : (es : List Element) (m : Demand) → elements-fault es m ≡ None → (e : ℕ) → e < length es → meets es m e ≡ true
-unfolding elements-fault element-fault
+unfolding elements-fault
 all-meet es m t e h = met-sound (meets es m e) (cause-of m) e (first-clear (element-fault es m) (length es) 0 t e (omega arith) (omega arith))
 
 all-from : (es : List Element) (m : Demand) → ((e : ℕ) → e < length es → meets es m e ≡ true) → elements-fault es m ≡ None
-unfolding elements-fault element-fault
+unfolding elements-fault
 all-from es m h = first-from (element-fault es m) (length es) 0 (λ e l k. met-from (meets es m e) (cause-of m) e (h e (omega arith)))
 
 -- both demands on all routes
 route-meets : (es : List Element) (rs : List Route) → routes-fault es rs ≡ None → (i : ℕ) → i < length rs
     → (has-path es (getD rs i no-route) ≡ true) × (is-overlap-allowed es (getD rs i no-route) ≡ true)
-unfolding routes-fault route-fault
+unfolding routes-fault
 route-meets es rs t i h =
     let r : Route = getD rs i no-route in
     let both : (unmet (has-path es r) cause.Path i ≡ None) × (unmet (is-overlap-allowed es r) cause.Overlap i ≡ None)
@@ -65,7 +65,7 @@ route-meets es rs t i h =
 
 routes-from : (es : List Element) (rs : List Route)
     → ((i : ℕ) → i < length rs → (has-path es (getD rs i no-route) ≡ true) × (is-overlap-allowed es (getD rs i no-route) ≡ true)) → routes-fault es rs ≡ None
-unfolding routes-fault route-fault
+unfolding routes-fault
 routes-from es rs h =
     first-from (route-fault-at es rs) (length rs) 0 (λ i l k.
     let met = h i (omega arith) in neither-from _ _ (met-from _ cause.Path i (met .0)) (met-from _ cause.Overlap i (met .1)))

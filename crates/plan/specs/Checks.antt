@@ -45,7 +45,7 @@ meets es the.Joins e = are-joins-sound es e
 meets es the.Entry e = is-entry-unmarked (at es e)
 
 -- The fault of an element that does not meet a demand.
-unfoldable pub element-fault : List Element → Demand → ℕ → Option Fault
+abbrev pub element-fault : List Element → Demand → ℕ → Option Fault
 element-fault es m e = unmet (meets es m e) (cause-of m) e
 
 -- One demand over all elements in turn.
@@ -53,7 +53,7 @@ unfoldable pub elements-fault : List Element → Demand → Option Fault
 elements-fault es m = first-fault (element-fault es m) (length es) 0
 
 -- The faults of a route in their order.
-unfoldable pub route-fault : List Element → Route → ℕ → Option Fault
+abbrev pub route-fault : List Element → Route → ℕ → Option Fault
 route-fault es r i = first-of (unmet (has-path es r) cause.Path i) (unmet (is-overlap-allowed es r) cause.Overlap i)
 
 abbrev pub route-fault-at : List Element → List Route → ℕ → Option Fault

@@ -35,7 +35,7 @@ abbrev pub are-fields-allowed : Element → Bool
 are-fields-allowed e = (not (isSome (e .dual)) || is-point (e .kind)) && (not (isSome (e .marks)) || is-signal (e .kind))
 
 -- An element has the fields of its kind, and no other.
-unfoldable pub has-its-fields : Element → Bool
+abbrev pub has-its-fields : Element → Bool
 has-its-fields e = are-joins-its-own e && (are-fields-needed e && are-fields-allowed e)
 
 -- A join goes to this port of this element.
@@ -59,7 +59,7 @@ are-apart (Some j) None = true
 are-apart (Some j) (Some k) = not (eqb (j .element) (k .element))
 
 -- The joins of an element are sound, and no two go to the same element.
-unfoldable pub are-joins-sound : List Element → ℕ → Bool
+abbrev pub are-joins-sound : List Element → ℕ → Bool
 are-joins-sound es e =
     is-join-sound es e 0 (join-of (at es e) 0)
     && (is-join-sound es e 1 (join-of (at es e) 1)

@@ -2,16 +2,14 @@ use mathlib.Core.Path.{refl}
 use Rattle.bounded.specs.Lists.{blanks}
 use Rattle.paths.specs.Following.{step}
 use Rattle.paths.specs.Places.{lacks, are-within, are-new, are-signals-between}
-use Rattle.paths.specs.Paths.{is-end, is-path}
 use Rattle.planbytes.specs.Files.{element-step, route-step}
-use Rattle.plan.specs.ElementTests.{has-its-fields, are-joins-sound}
-use Rattle.plan.specs.Checks.{element-fault, elements-fault, route-fault, routes-fault}
+use Rattle.plan.specs.Checks.{elements-fault, routes-fault}
 use Rattle.plan.specs.Plans.{reading}
 use Rattle.examples.specs.Worked.{Worked-examples}
 use Rattle.examples.proofs.examples_hold.Needs as need
 
 holds : Worked-examples
-unfolding blanks step lacks are-within are-new are-signals-between is-end is-path element-step route-step has-its-fields are-joins-sound element-fault elements-fault route-fault routes-fault reading
+unfolding blanks step lacks are-within are-new are-signals-between element-step route-step elements-fault routes-fault reading
 holds = (refl, refl, refl, refl, refl)
 
 pub returns : need.returns

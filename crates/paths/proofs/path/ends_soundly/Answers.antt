@@ -1,14 +1,11 @@
 use borrow.Author.Needs.{needs}
-use Rattle.paths.specs.Paths.{is-end}
 use Rattle.paths.proofs.FollowTurn.{follows-rest}
 use Rattle.paths.proofs.path.ends_soundly.Needs as need
 
 pub returns-in-Some : need.returns-in-Some
-unfolding is-end
 returns-in-Some c =
     let entered = follows-rest (c .args .elements .now) _ (c .args .path .now) _ (c .follow .ensures) in search needs
 
 pub returns-in-None : need.returns-in-None
-unfolding is-end
 returns-in-None c =
     let entered = follows-rest (c .args .elements .now) _ (c .args .path .now) _ (c .follow .ensures) in search needs

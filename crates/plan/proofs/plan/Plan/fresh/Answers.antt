@@ -1,13 +1,12 @@
 use mathlib.Core.Path.{_≡_, refl, ap, _∙_}
 use mathlib.Core.Bool.{true}
 use Rattle.bounded.specs.Lists.{blanks}
-use Rattle.plan.specs.ElementTests.{has-its-fields, are-joins-sound}
-use Rattle.plan.specs.Checks.{element-fault, elements-fault, route-fault, routes-fault}
+use Rattle.plan.specs.Checks.{elements-fault, routes-fault}
 use Rattle.plan.specs.Plans.{is-sound, fresh-drawing}
 use Rattle.plan.proofs.plan.Plan.fresh.Needs as need
 
 fresh-is-sound : is-sound fresh-drawing ≡ true
-unfolding is-sound fresh-drawing blanks elements-fault element-fault routes-fault route-fault has-its-fields are-joins-sound
+unfolding is-sound fresh-drawing blanks elements-fault routes-fault
 fresh-is-sound = refl
 
 pub ghost-result : need.ghost-result
