@@ -26,7 +26,7 @@ use Rattle.flank.specs.declared.answers.Mark.{Mark}
 use Rattle.flank.specs.declared.flanks.Flank.{Flank}
 use Rattle.flank.specs.Signals.{passes, onward, along}
 use Rattle.flank.specs.Used.{with-one, with-used, used-table}
-use Rattle.flank.specs.Flanks.{free-leg, flank-in, path-spare, with-spare, flank-over, flank-of}
+use Rattle.flank.specs.Flanks.{free-leg, flank-in, path-flank, overlap-flank, flank-over, flank-of}
 use Rattle.flank.specs.Protection.{flank-marks, no-marks, marks-below, marks-of}
 
 -- adding the elements of a way to a table
@@ -95,7 +95,7 @@ module _ (es : List Element) (c : RouteClass) (overlap : List ℕ) (e : ℕ) whe
   pub flank-point : (path : List ℕ) (p o : Option Position) → 0 < length path → is-point (at es e .kind) ≡ true
       → p ≡ flank-in es (getD path 0 0) (take (length path - 1) (drop 1 path)) e
       → o ≡ flank-in es (getD path (length path - 1) 0) overlap e
-      → orOther (with-spare p (path-spare c)) (with-spare o 0) ≡ flank-over es c path overlap e
+      → orOther (path-flank p c) (overlap-flank o) ≡ flank-over es c path overlap e
   unfolding flank-over
   flank-point [] p o h k i j = absurd (omega arith)
   flank-point (x ∷ xs) p o h k i j =

@@ -41,12 +41,16 @@ flank-in es before (x ∷ xs) e =
 abbrev pub path-spare : RouteClass → ℕ
 path-spare c = path-reach c - 1
 
-abbrev pub overlap-spare : ℕ
-overlap-spare = 0
-
 abbrev pub with-spare : Option Position → ℕ → Option Flank
 with-spare None spare = None
 with-spare (Some leg) spare = Some (record { leg = leg; spare = spare })
+
+-- A flank inside the path of a route of a class, and one inside an overlap, out of which a walk may pass no point that counts.
+abbrev pub path-flank : Option Position → RouteClass → Option Flank
+path-flank leg c = with-spare leg (path-spare c)
+
+abbrev pub overlap-flank : Option Position → Option Flank
+overlap-flank leg = with-spare leg 0
 
 -- The flank of the element e, where it is a point inside the path, or inside the overlap beyond the path's last element.
 unfoldable pub flank-over : List Element → RouteClass → List ℕ → List ℕ → ℕ → Option Flank
@@ -54,8 +58,8 @@ flank-over es c [] overlap e = None
 flank-over es c (first ∷ rest) overlap e =
     elim (is-point (at es e .kind)) [
       | true ↦
-          orOther (with-spare (flank-in es first rest e) (path-spare c))
-          (with-spare (flank-in es (place (first ∷ rest) (length rest)) overlap e) overlap-spare)
+          orOther (path-flank (flank-in es first rest e) c)
+          (overlap-flank (flank-in es (place (first ∷ rest) (length rest)) overlap e))
       | false ↦ None
     ]
 

@@ -1,7 +1,7 @@
 //! The flanks of a route.
 
 ghost use mathlib.Core.Path.{_≡_};
-ghost use Rattle.flank.specs.Flanks.{leads-to, free-leg, flank-in, path-spare, with-spare, flank-of};
+ghost use Rattle.flank.specs.Flanks.{leads-to, free-leg, flank-in, path-spare, with-spare, path-flank, overlap-flank, flank-of};
 use crate::used::overlap_of;
 use crate::used::path_of;
 use layout::element::Element;
@@ -64,6 +64,7 @@ fn path_spare(class: RouteClass) -> u8
     }
 }
 
+/// The flank with a leg, if there is one.
 fn with_spare(leg: Option<Position>, spare: u8) -> Option<Flank>
     ensures { λ r. ⌜ r ≡ with-spare leg spare ⌝ }
 {
@@ -71,6 +72,20 @@ fn with_spare(leg: Option<Position>, spare: u8) -> Option<Flank>
         Some(leg) => Some(Flank { leg, spare }),
         None => None,
     }
+}
+
+/// A flank inside the path of a route of a class.
+fn path_flank(leg: Option<Position>, class: RouteClass) -> Option<Flank>
+    ensures { λ r. ⌜ r ≡ path-flank leg class ⌝ }
+{
+    with_spare(leg, path_spare(class))
+}
+
+/// A flank inside an overlap, out of which a walk ends open at the first point that counts.
+fn overlap_flank(leg: Option<Position>) -> Option<Flank>
+    ensures { λ r. ⌜ r ≡ overlap-flank leg ⌝ }
+{
+    with_spare(leg, 0)
 }
 
 /// The flank of an element, where it is a point that the route uses.
@@ -83,5 +98,5 @@ pub(crate) fn flank_of(elements: &[Element], route: &Route, number: u8) -> Optio
     }
     let in_path = flank_in(elements, path[0], &path[1..], number);
     let in_overlap = flank_in(elements, path[path.len() - 1], overlap_of(route), number);
-    with_spare(in_path, path_spare(route.class)).or(with_spare(in_overlap, 0))
+    path_flank(in_path, route.class).or(overlap_flank(in_overlap))
 }

@@ -2,7 +2,6 @@
 
 ghost use mathlib.Core.Path.{_≡_};
 ghost use lib.ListN.{length};
-ghost use Rattle.layout.specs.Uses.{leg};
 ghost use Rattle.flank.specs.Used.{used-table};
 ghost use Rattle.flank.specs.Flanks.{flank-of};
 ghost use Rattle.flank.specs.Protection.{flank-marks, no-marks, marks-below, route-marks, branches-of, put-at, counts-told, requests-told, branches-told};
@@ -13,22 +12,10 @@ use crate::flanks::flank_of;
 use crate::listing::list_open;
 use crate::listing::list_requests;
 use crate::search::search;
-use crate::signals::far_end;
+use crate::signals::beyond_leg;
 use crate::used::used_by;
 use layout::element::Element;
-use layout::element::Join;
-use layout::position::Position;
 use layout::route::Route;
-
-/// The port of a point's leg.
-fn leg_port(position: Position) -> u8
-    ensures { λ r. ⌜ r ≡ leg position ⌝ }
-{
-    match position {
-        Position::Plus => 1,
-        Position::Minus => 2,
-    }
-}
 
 /// A table with nothing marked.
 fn no_marks() -> [Mark; 96]
@@ -46,8 +33,7 @@ fn mark_flank(elements: &[Element], route: &Route, used: &[bool], element: u8, m
     ensures { λ _. ⌜ now (marked .exit) ≡ flank-marks (now (elements .entry)) (now (used .entry)) element (flank-of (now (elements .entry)) (now (route .entry)) element) (now (marked .entry)) ⌝ }
 {
     if let Some(flank) = flank_of(elements, route, element) {
-        let port = leg_port(flank.leg);
-        let from = far_end(elements, Join { element, port });
+        let from = beyond_leg(elements, element, flank.leg);
         search(elements, used, from, flank.spare, marked);
     }
 }

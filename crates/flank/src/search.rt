@@ -5,6 +5,7 @@ ghost use Rattle.flank.specs.Search.{asked, marked-at, opened-at, marks, walk}
 use crate::answers::Mark;
 use crate::meeting::Meeting;
 use crate::meeting::meet;
+use crate::signals::beyond_leg;
 use crate::signals::far_end;
 use crate::signals::pass_signals;
 use layout::element::Element;
@@ -59,9 +60,9 @@ pub(crate) fn search(
         Meeting::Ends => {}
         Meeting::Shields(position) => mark_request(marked, element, position),
         Meeting::AtToe if spare > 0 => {
-            let plus = far_end(elements, Join { element, port: 1 });
+            let plus = beyond_leg(elements, element, Position::Plus);
             search(elements, used, plus, spare - 1, marked);
-            let minus = far_end(elements, Join { element, port: 2 });
+            let minus = beyond_leg(elements, element, Position::Minus);
             search(elements, used, minus, spare - 1, marked);
         }
         Meeting::AtLeg if spare > 0 => {

@@ -1,12 +1,15 @@
-//! Passing signals.
+//! Following joins, and passing signals.
 
 ghost use mathlib.Core.Path.{_≡_};
+ghost use Rattle.layout.specs.Uses.{leg};
+ghost use Rattle.layout.specs.Ways.{port};
 ghost use Rattle.flank.specs.Signals.{far-end, is-requested, is-able-signal, passes, along};
 use layout::element::Element;
 use layout::element::Join;
 use layout::kind::Kind;
 use layout::kind::Marks;
 use layout::ports::element_at;
+use layout::position::Position;
 
 /// As many ports as 96 signals have.
 const SIGNAL_PORTS: usize = 192;
@@ -19,6 +22,24 @@ pub(crate) fn far_end(elements: &[Element], from: Join) -> Join
         Some(far) => far,
         None => from,
     }
+}
+
+/// The port of a point's leg.
+fn leg_port(position: Position) -> u8
+    ensures { λ r. ⌜ r ≡ leg position ⌝ }
+{
+    match position {
+        Position::Plus => 1,
+        Position::Minus => 2,
+    }
+}
+
+/// The port that a leg of a point is joined to.
+pub(crate) fn beyond_leg(elements: &[Element], element: u8, position: Position) -> Join
+    ensures { λ r. ⌜ r ≡ far-end (now (elements .entry)) (port element (leg position)) ⌝ }
+{
+    let port = leg_port(position);
+    far_end(elements, Join { element, port })
 }
 
 /// Whether a signal with these marks is requested at flanks.

@@ -16,7 +16,7 @@ returns-in-Shields t c =
 pub returns-in-AtToe : need.returns-in-AtToe
 returns-in-AtToe t c =
     marks-at-toe _ _ _ _ (c .pass-signals-met .ensures) _ _ _ _ _ _ (c .if-spare-gt0 .taken) (sym (c .in-AtToe .ensures tt))
-    (c .far-end-plus .ensures) (c .far-end-minus .ensures) (c .search .ensures) (c .search-in-AtToe .ensures)
+    (c .beyond-leg-plus .ensures) (c .beyond-leg-minus .ensures) (c .search .ensures) (c .search-in-AtToe .ensures)
 
 pub returns-in-AtLeg : need.returns-in-AtLeg
 returns-in-AtLeg t c =
