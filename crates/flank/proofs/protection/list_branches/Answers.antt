@@ -1,0 +1,30 @@
+use mathlib.Core.Path.{_≡_, sym, ap, _∙_}
+use mathlib.Core.List.{List, _++_}
+use Prim.Native.Nat.{_+_}
+use lib.ListN.{length}
+use Rattle.flank.specs.declared.answers.Mark.{Mark}
+use borrow.Author.Needs.{needs}
+use native.Mathlib.Omega.{arith}
+use Rattle.flank.specs.Protection.{branches-in, branches-below}
+use Rattle.flank.proofs.Turns.{flank-table}
+use Rattle.flank.proofs.Lists.{below-more, below-few, put-more}
+use Rattle.flank.proofs.protection.list_branches.Needs as need
+
+pub loop-number-holds : need.loop-number-holds
+unfolding branches-below
+loop-number-holds c = search needs
+
+pub list-open-place-requires : need.list-open-place-requires
+list-open-place-requires c κs = search (needs, below-few)
+
+pub loop-number-again : need.loop-number-again
+loop-number-again c =
+    let table = flank-table (c .args .elements .now) (c .args .route .now) (c .loop-number .number) _ _ _ (c .used-by-used .ensures) (c .no-marks-marked .ensures) (c .mark-flank .ensures) in
+    let more = below-more (c .args .elements .now) (c .args .route .now) (c .loop-number .number)
+    ∙ ap (λ (t : List Mark). branches-below (c .args .elements .now) (c .args .route .now) (c .loop-number .number) ++ branches-in (c .loop-number .number) t 96) (sym table) in
+    let at : c .loop-number .place ≡ 0 + length (branches-below (c .args .elements .now) (c .args .route .now) (c .loop-number .number)) = omega arith in
+    let turn =
+    put-more _ _ _ _ _ (c .args .list .now) 0 (c .loop-number .place) (c .list-open-place .result) more
+    at (c .loop-number .inv .1) (c .list-open-place .ensures .next) (c .list-open-place .ensures .list)
+    in
+    (omega (arith, turn .0), turn .1)

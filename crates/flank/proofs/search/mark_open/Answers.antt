@@ -1,0 +1,6 @@
+use borrow.Author.Needs.{needs}
+use Rattle.std.proofs.shelf.Lists.{set-past}
+use Rattle.flank.proofs.search.mark_open.Needs as need
+
+pub returns-else-place-marked : need.returns-else-place-marked
+returns-else-place-marked c = search (needs, set-past)

@@ -1,0 +1,4 @@
+mod Pigeon
+mod Net
+mod Chain
+mod Told
