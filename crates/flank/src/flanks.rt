@@ -2,8 +2,6 @@
 
 ghost use mathlib.Core.Path.{_≡_};
 ghost use Rattle.flank.specs.Flanks.{leads-to, free-leg, flank-in, path-spare, with-spare, path-flank, overlap-flank, flank-of};
-use crate::used::overlap_of;
-use crate::used::path_of;
 use layout::element::Element;
 use layout::element::Join;
 use layout::ports::element_at;
@@ -13,9 +11,9 @@ use layout::route::RouteClass;
 
 /// The leg of a used point that the route does not use, and how many points that count a walk out of it may pass.
 #[derive(Clone, Copy)]
-pub(crate) struct Flank {
-    pub(crate) leg: Position,
-    pub(crate) spare: u8,
+pub struct Flank {
+    pub leg: Position,
+    pub spare: u8,
 }
 
 /// Whether a join leads to an element.
@@ -89,14 +87,14 @@ fn overlap_flank(leg: Option<Position>) -> Option<Flank>
 }
 
 /// The flank of an element, where it is a point that the route uses.
-pub(crate) fn flank_of(elements: &[Element], route: &Route, number: u8) -> Option<Flank>
+pub fn flank_of(elements: &[Element], route: &Route, number: u8) -> Option<Flank>
     ensures { λ r. ⌜ r ≡ flank-of (now (elements .entry)) (now (route .entry)) number ⌝ }
 {
-    let path = path_of(route);
+    let path = route.path_elements();
     if path.len() == 0 || !element_at(elements, number as usize).kind.is_point() {
         return None;
     }
     let in_path = flank_in(elements, path[0], &path[1..], number);
-    let in_overlap = flank_in(elements, path[path.len() - 1], overlap_of(route), number);
+    let in_overlap = flank_in(elements, path[path.len() - 1], route.overlap_elements(), number);
     path_flank(in_path, route.class).or(overlap_flank(in_overlap))
 }

@@ -1,11 +1,11 @@
 //! The search out of the flanks of a route: what it requests to shield them, and the branches that stay open.
 
 pub mod answers;
-mod flanks;
+pub mod flanks;
 mod listing;
 mod meeting;
 pub mod protection;
 mod search;
 mod signals;
 mod tables;
-mod used;
+pub mod used;

@@ -3,32 +3,11 @@
 ghost use mathlib.Core.Path.{_≡_};
 ghost use mathlib.Core.Bool.{false};
 ghost use lib.ListN.{getD};
-ghost use Rattle.layout.specs.Uses.{path-of, overlap-of};
 ghost use Rattle.flank.specs.Used.{inner, with-one, with-used, used-table};
 use crate::tables::put;
 use layout::element::Element;
 use layout::ports::element_at;
 use layout::route::Route;
-
-/// The elements of a route's path, none where it has no path.
-pub(crate) fn path_of(route: &Route) -> &[u8]
-    ensures { λ r. ⌜ now r ≡ path-of (now (route .entry)) ⌝ }
-{
-    match &route.path {
-        Some(path) => path.as_slice(),
-        None => &[],
-    }
-}
-
-/// The elements of a route's overlap, none where it has no overlap.
-pub(crate) fn overlap_of(route: &Route) -> &[u8]
-    ensures { λ r. ⌜ now r ≡ overlap-of (now (route .entry)) ⌝ }
-{
-    match &route.overlap {
-        Some(overlap) => overlap.as_slice(),
-        None => &[],
-    }
-}
 
 /// The elements strictly between the first and the last of a path.
 fn inner(path: &[u8]) -> &[u8]
@@ -61,12 +40,12 @@ fn use_way(elements: &[Element], way: &[u8], used: &mut [bool])
 }
 
 /// The table of the elements that a route uses, by number.
-pub(crate) fn used_by(elements: &[Element], route: &Route) -> [bool; 96]
+pub fn used_by(elements: &[Element], route: &Route) -> [bool; 96]
     ensures { λ r. ⌜ r ≡ used-table (now (elements .entry)) (now (route .entry)) ⌝ }
 {
     let mut used = [false; 96];
-    use_way(elements, inner(path_of(route)), &mut used);
-    use_way(elements, overlap_of(route), &mut used);
+    use_way(elements, inner(route.path_elements()), &mut used);
+    use_way(elements, route.overlap_elements(), &mut used);
     used
 }
 

@@ -2,6 +2,7 @@
 
 ghost use mathlib.Core.Path.{_≡_};
 ghost use Rattle.layout.specs.Numbers.{class-of};
+ghost use Rattle.layout.specs.Uses.{path-of, overlap-of};
 use bounded::bounded::Bounded;
 
 /// What a route is for.
@@ -30,4 +31,26 @@ pub struct Route {
     pub path: Option<Bounded<u8, 24>>,
     pub overlap: Option<Bounded<u8, 8>>,
     pub zero_overlap: bool,
+}
+
+impl Route {
+    /// The elements of the path in order, none where there is no path.
+    pub fn path_elements(&self) -> &[u8]
+        ensures { λ r. ⌜ now r ≡ path-of (now (self .entry)) ⌝ }
+    {
+        match &self.path {
+            Some(path) => path.as_slice(),
+            None => &[],
+        }
+    }
+
+    /// The elements of the overlap in order, none where there is no overlap.
+    pub fn overlap_elements(&self) -> &[u8]
+        ensures { λ r. ⌜ now r ≡ overlap-of (now (self .entry)) ⌝ }
+    {
+        match &self.overlap {
+            Some(overlap) => overlap.as_slice(),
+            None => &[],
+        }
+    }
 }
