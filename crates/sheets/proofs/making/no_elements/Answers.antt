@@ -1,0 +1,7 @@
+use mathlib.Core.Path.{refl}
+use Rattle.bounded.specs.Lists.{blanks}
+use Rattle.sheets.proofs.making.no_elements.Needs as need
+
+pub returns : need.returns
+unfolding blanks
+returns c = refl

@@ -1,0 +1,18 @@
+use borrow.Author.Needs.{needs}
+use Rattle.layout.proofs.EveryTurn.{every-none, every-more, every-all}
+use Rattle.sheets.specs.Sections.{is-known}
+use Rattle.sheets.proofs.sections.is_known.Needs as need
+
+pub loop-i-holds : need.loop-i-holds
+loop-i-holds c = search (needs, every-none)
+
+pub loop-i-again : need.loop-i-again
+loop-i-again c = search (needs, every-more)
+
+pub returns-then-lies-in : need.returns-then-lies-in
+unfolding is-known
+returns-then-lies-in c = search (needs, every-more)
+
+pub returns : need.returns
+unfolding is-known
+returns c = search (needs, every-all)

@@ -1,0 +1,4 @@
+pub mod Tables
+pub mod Wants
+pub mod Sections
+pub mod Sheets
