@@ -13,9 +13,9 @@ use layout::route::RouteClass;
 
 /// The leg of a used point that the route does not use, and how many points that count a walk out of it may pass.
 #[derive(Clone, Copy)]
-pub(crate) struct Flank {
-    pub(crate) leg: Position,
-    pub(crate) spare: u8,
+pub struct Flank {
+    pub leg: Position,
+    pub spare: u8,
 }
 
 /// Whether a join leads to an element.

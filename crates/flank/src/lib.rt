@@ -1,9 +1,9 @@
 //! The search out of the flanks of a route: what it requests to shield them, and the branches that stay open.
 
 pub mod answers;
-mod flanks;
+pub mod flanks;
 mod listing;
-mod meeting;
+pub mod meeting;
 pub mod protection;
 mod search;
 mod signals;
