@@ -1,3 +1,3 @@
-mod Turns
-mod Marking
+pub mod Turns
+pub mod Marking
 mod Lists

@@ -40,7 +40,7 @@ unfolding with-used
 used-all es way i t h = rw drop-all
 
 -- passing signals, of which n more may be passed
-along-suc : (b : Bool) (es : List Element) (n : ℕ) (q : Join) → passes b es q ≡ true → along b es (suc n) q ≡ along b es n (onward es q)
+pub along-suc : (b : Bool) (es : List Element) (n : ℕ) (q : Join) → passes b es q ≡ true → along b es (suc n) q ≡ along b es n (onward es q)
 unfolding along
 along-suc b es n q e = rw (e, along)
 
@@ -99,8 +99,7 @@ module _ (es : List Element) (c : RouteClass) (overlap : List ℕ) (e : ℕ) whe
   unfolding flank-over
   flank-point [] p o h k i j = absurd (omega arith)
   flank-point (x ∷ xs) p o h k i j =
-      let n : suc (length xs) - 1 ≡ length xs = omega arith in
-      rw (k, flank-over) (rw (i, j, n, take-all (length xs) xs (omega arith)))
+      rw (k, flank-over) (rw (i, j, take-all (suc (length xs) - 1) xs (omega arith)))
 
 -- marking flank after flank
 pub marks-none : (es : List Element) (r : Route) → marks-below es r 0 ≡ no-marks

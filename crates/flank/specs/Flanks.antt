@@ -59,7 +59,7 @@ flank-over es c (first ∷ rest) overlap e =
     elim (is-point (at es e .kind)) [
       | true ↦
           orOther (path-flank (flank-in es first rest e) c)
-          (overlap-flank (flank-in es (place (first ∷ rest) (length rest)) overlap e))
+          (overlap-flank (flank-in es (place (first ∷ rest) (length (first ∷ rest) - 1)) overlap e))
       | false ↦ None
     ]
 

@@ -3,7 +3,7 @@
 pub mod answers;
 pub mod flanks;
 mod listing;
-mod meeting;
+pub mod meeting;
 pub mod protection;
 mod search;
 mod signals;

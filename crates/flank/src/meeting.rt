@@ -15,7 +15,7 @@ use layout::position::Position;
 
 /// A walk at an element that it does not just pass.
 #[derive(Clone, Copy)]
-pub(crate) enum Meeting {
+pub enum Meeting {
     /// The walk ends, and not open.
     Ends,
     /// The element is able to shield.

@@ -16,6 +16,7 @@ use Rattle.layout.specs.Kinds.{ports, is-signal}
 use Rattle.layout.specs.Ports.{at}
 use Rattle.layout.specs.Sound.{SoundElements}
 use Rattle.flank.specs.Signals.{far-end, across, onward, passes, along, signal-ports}
+use Rattle.flank.proofs.Turns.{along-suc}
 use Rattle.walks.proofs.Net.{Port, inside, back}
 use Rattle.walks.proofs.Pigeon.{pigeon}
 
@@ -152,17 +153,8 @@ module _ (all : Bool) (es : List Element) (sound : SoundElements es) (few : leng
       go ih true e = rw (e, along) (ih (rw (e, along) at h))
       go ih false e = rw (e, along)
 
-  pub along-rests : (n : ℕ) (q : Join) → passes all es q ≡ false → along all es n q ≡ q
-  unfolding along
-  along-rests zero q h = refl
-  along-rests (suc n) q h = rw (h, along)
-
-  pub along-suc : (n : ℕ) (q : Join) → passes all es q ≡ true → along all es (suc n) q ≡ along all es n (onward es q)
-  unfolding along
-  along-suc n q e = rw (e, along)
-
   pub along-step : {q : Join} → Chain all es q → passes all es q ≡ true → along all es signal-ports (onward es q) ≡ along all es signal-ports q
-  along-step {q} c e = sym (along-suc signal-ports q e) ∙ along-more signal-ports q (along-stops c)
+  along-step {q} c e = sym (along-suc all es signal-ports q e) ∙ along-more signal-ports q (along-stops c)
 
   pub chain-along : (n : ℕ) {q : Join} → Chain all es q → Chain all es (along all es n q)
   unfolding along

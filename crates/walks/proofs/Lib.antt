@@ -2,3 +2,9 @@ mod Pigeon
 mod Net
 mod Chain
 mod Told
+mod Found
+mod Used
+mod Legs
+mod Flanks
+mod Tables
+mod Exactly

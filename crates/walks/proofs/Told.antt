@@ -29,9 +29,10 @@ use Rattle.flank.specs.declared.meeting.Meeting.{Meeting}
 use Rattle.flank.specs.declared.meeting.Meeting.the-variants.{Ends, Shields, AtToe, AtLeg}
 use Rattle.flank.specs.Signals.{far-end, across, onward, is-requested, is-able-signal, passes, along, signal-ports}
 use Rattle.flank.specs.Meetings.{other-leg, may-shield, beyond-toe, meets-leg, meets-kind, meets}
+use Rattle.flank.proofs.Turns.{along-rests}
 use Rattle.walks.specs.Walks.{Is, LeadsPast, Beyond, here, past, Behind, Prefers, both, plus, minus, Marked, opposite, Able, derailer, signal, point, Counts}
 use Rattle.walks.proofs.Net.{Port, far-is, linked, some-apart}
-use Rattle.walks.proofs.Chain.{Chain, starts, goes, across-port, along-stops, along-step, along-rests, chain-port}
+use Rattle.walks.proofs.Chain.{Chain, starts, goes, across-port, along-stops, along-step, chain-port}
 
 -- what the theorems stand on: sound elements, few enough, and the table of what the route uses
 pub record Ground (es : List Element) (r : Route) (used : List Bool) : Type 0 where
@@ -72,7 +73,7 @@ module _ (es : List Element) (sound : SoundElements es) (few : length es ≤ 96)
       go ih false e = rw (e, along) (here (λ s. both-ways _ e (passes-all es q s)))
 
   along-beyond : {q r : Join} → Chain true es q → Beyond es q r → along true es signal-ports q ≡ r
-  along-beyond {q} c (here n) = along-rests true es sound few signal-ports q (and-left _ _ (no-signal _ n))
+  along-beyond {q} c (here n) = along-rests true es signal-ports q (and-left _ _ (no-signal _ n))
   along-beyond {q} c (past {next} s l b) =
       let e = passes-all es q s in
       let on : onward es q ≡ next = far-is es (q .element) (1 - q .port) next l in
