@@ -12,6 +12,7 @@ number-of cause.Join = 5
 number-of cause.EntryMarked = 6
 number-of cause.Path = 7
 number-of cause.Overlap = 8
+number-of cause.BothWays = 9
 
 -- Layer 1 is about bytes, layer 2 about elements, layer 3 about routes.
 abbrev pub layer-of : Cause → ℕ
@@ -23,3 +24,4 @@ layer-of cause.Join = 2
 layer-of cause.EntryMarked = 2
 layer-of cause.Path = 3
 layer-of cause.Overlap = 3
+layer-of cause.BothWays = 3

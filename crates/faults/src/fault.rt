@@ -22,6 +22,8 @@ pub enum Cause {
     Path = 7,
     /// A route's overlap or zero overlap is not allowed.
     Overlap = 8,
+    /// A point without dual field is requested both ways by one route.
+    BothWays = 9,
 }
 
 /// Why a plan is rejected, and where: a byte offset, an element or a route, by the layer.
@@ -46,7 +48,7 @@ impl Fault {
         match self.cause {
             Cause::Ended | Cause::OutOfRange | Cause::LeftOver => 1,
             Cause::Fields | Cause::Join | Cause::EntryMarked => 2,
-            Cause::Path | Cause::Overlap => 3,
+            Cause::Path | Cause::Overlap | Cause::BothWays => 3,
         }
     }
 }

@@ -95,6 +95,11 @@ pub fn flank_of(elements: &[Element], route: &Route, number: u8) -> Option<Flank
         return None;
     }
     let in_path = flank_in(elements, path[0], &path[1..], number);
-    let in_overlap = flank_in(elements, path[path.len() - 1], route.overlap_elements(), number);
+    let in_overlap = flank_in(
+        elements,
+        path[path.len() - 1],
+        route.overlap_elements(),
+        number,
+    );
     path_flank(in_path, route.class).or(overlap_flank(in_overlap))
 }

@@ -1,4 +1,5 @@
 mod FirstTurn
 mod FieldsExact
 mod JoinsExact
+mod OneWay
 mod PlansExact

@@ -1,6 +1,6 @@
 -- A drawing passes the checks exactly if it is a sound plan.
 use mathlib.Core.Path.{_≡_, refl, sym, ap, _∙_}
-use mathlib.Core.Bool.{Bool, true, false, cond}
+use mathlib.Core.Bool.{Bool, true, false, cond, not}
 use mathlib.Core.List.{List}
 use mathlib.Core.Logic.{_⊎_, inl, inr}
 use Prim.Native.Nat.{ℕ, _<_, _≤_, min}
@@ -30,12 +30,14 @@ use Rattle.paths.proofs.OverlapsExact.{overlaps-exact}
 use Rattle.planbytes.specs.Bytes.{fault}
 use Rattle.plan.specs.declared.demand.Demand.{Demand}
 use Rattle.plan.specs.declared.demand.Demand.the-variants as the
+use Rattle.plan.specs.RequestTests.{asks-both-ways}
 use Rattle.plan.specs.Checks.{first-of, first-fault, unmet, cause-of, meets, element-fault, elements-fault, route-fault, route-fault-at, routes-fault, content-fault, drawing-fault}
 use Rattle.plan.specs.Plans.{is-none, is-sound}
 use Rattle.plan.specs.Sound.{SoundPlan, Checks-exact}
 use Rattle.plan.proofs.FirstTurn.{neither, neither-from, first-clear, first-from}
 use Rattle.plan.proofs.FieldsExact.{fields-sound, fields-from, entry-sound, entry-from}
 use Rattle.plan.proofs.JoinsExact.{joined-sound, joined-from}
+use Rattle.plan.proofs.OneWay.{one-way-sound, one-way-from}
 
 met-sound : (met : Bool) (c : Cause) (place : ℕ) → unmet met c place ≡ None → met ≡ true
 met-sound true c place e = refl
@@ -53,22 +55,27 @@ all-from : (es : List Element) (m : Demand) → ((e : ℕ) → e < length es →
 unfolding elements-fault
 all-from es m h = first-from (element-fault es m) (length es) 0 (λ e l k. met-from (meets es m e) (cause-of m) e (h e (omega arith)))
 
--- both demands on all routes
+-- the demands on all routes
 route-meets : (es : List Element) (rs : List Route) → routes-fault es rs ≡ None → (i : ℕ) → i < length rs
-    → (has-path es (getD rs i no-route) ≡ true) × (is-overlap-allowed es (getD rs i no-route) ≡ true)
+    → (has-path es (getD rs i no-route) ≡ true) × (is-overlap-allowed es (getD rs i no-route) ≡ true) × (not (asks-both-ways es (getD rs i no-route)) ≡ true)
 unfolding routes-fault
 route-meets es rs t i h =
     let r : Route = getD rs i no-route in
-    let both : (unmet (has-path es r) cause.Path i ≡ None) × (unmet (is-overlap-allowed es r) cause.Overlap i ≡ None)
+    let one : (unmet (has-path es r) cause.Path i ≡ None)
+    × (first-of (unmet (is-overlap-allowed es r) cause.Overlap i) (unmet (not (asks-both-ways es r)) cause.BothWays i) ≡ None)
     = neither _ _ (first-clear (route-fault-at es rs) (length rs) 0 t i (omega arith) (omega arith)) in
-    (met-sound _ cause.Path i (both .0), met-sound _ cause.Overlap i (both .1))
+    let two : (unmet (is-overlap-allowed es r) cause.Overlap i ≡ None) × (unmet (not (asks-both-ways es r)) cause.BothWays i ≡ None) = neither _ _ (one .1) in
+    (met-sound _ cause.Path i (one .0), met-sound _ cause.Overlap i (two .0), met-sound _ cause.BothWays i (two .1))
 
 routes-from : (es : List Element) (rs : List Route)
-    → ((i : ℕ) → i < length rs → (has-path es (getD rs i no-route) ≡ true) × (is-overlap-allowed es (getD rs i no-route) ≡ true)) → routes-fault es rs ≡ None
+    → ((i : ℕ) → i < length rs
+    → (has-path es (getD rs i no-route) ≡ true) × (is-overlap-allowed es (getD rs i no-route) ≡ true) × (not (asks-both-ways es (getD rs i no-route)) ≡ true))
+    → routes-fault es rs ≡ None
 unfolding routes-fault
 routes-from es rs h =
     first-from (route-fault-at es rs) (length rs) 0 (λ i l k.
-    let met = h i (omega arith) in neither-from _ _ (met-from _ cause.Path i (met .0)) (met-from _ cause.Overlap i (met .1)))
+    let met = h i (omega arith) in
+    neither-from _ _ (met-from _ cause.Path i (met .0)) (neither-from _ _ (met-from _ cause.Overlap i (met .1)) (met-from _ cause.BothWays i (met .2))))
 
 none-sound : (o : Option Fault) → is-none o ≡ true → o ≡ None
 none-sound None e = refl
@@ -96,12 +103,15 @@ plan-sound d t =
     let c : (elements-fault es the.Entry ≡ None) × (routes-fault es rs ≡ None) = neither _ _ (b .1) in
     let sound : SoundElements es = elements-sound es (a .0) (b .0) (c .0) in
     let path : (i : ℕ) → i < length rs → HasSoundPath es (getD rs i no-route) = λ i h. paths-exact es (getD rs i no-route) sound .0 (route-meets es rs (c .1) i h .0) in
+    let overlap : (i : ℕ) → i < length rs → AllowedOverlap es (getD rs i no-route)
+    = λ i h. overlaps-exact es (getD rs i no-route) sound (path i h) .0 (route-meets es rs (c .1) i h .1) in
     record {
       few-elements = few (d .elements);
       few-routes = few (d .routes);
       elements = sound;
       paths = path;
-      overlaps = λ i h. overlaps-exact es (getD rs i no-route) sound (path i h) .0 (route-meets es rs (c .1) i h .1);
+      overlaps = overlap;
+      one-way = λ i h. one-way-sound es (getD rs i no-route) sound (few (d .elements)) (path i h) (overlap i h) (route-meets es rs (c .1) i h .2);
     }
 
 plan-from : (d : Drawing) → SoundPlan d → is-sound d ≡ true
@@ -116,6 +126,7 @@ plan-from d s =
     (routes-from es rs (λ i h. (
       paths-exact es (getD rs i no-route) (s .elements) .1 (s .paths i h),
       overlaps-exact es (getD rs i no-route) (s .elements) (s .paths i h) .1 (s .overlaps i h),
+      one-way-from es (getD rs i no-route) (s .elements) (s .few-elements) (s .paths i h) (s .overlaps i h) (s .one-way i h),
     ))))) in
     ap is-none none
 

@@ -1,5 +1,5 @@
 -- The checks of a drawing in their order, to the first fault.
-use mathlib.Core.Bool.{Bool, cond}
+use mathlib.Core.Bool.{Bool, cond, not}
 use mathlib.Core.List.{List}
 use Prim.Native.Nat.{ℕ, zero, suc, _+_}
 use lib.ListN.{length, getD}
@@ -19,6 +19,7 @@ use Rattle.paths.specs.Overlaps.{is-overlap-allowed}
 use Rattle.planbytes.specs.Bytes.{fault}
 use Rattle.plan.specs.declared.demand.Demand.{Demand}
 use Rattle.plan.specs.declared.demand.Demand.the-variants as the
+use Rattle.plan.specs.RequestTests.{asks-both-ways}
 use Rattle.plan.specs.ElementTests.{has-its-fields, are-joins-sound, is-entry-unmarked}
 
 -- The first of two faults, if there is one.
@@ -54,7 +55,9 @@ elements-fault es m = first-fault (element-fault es m) (length es) 0
 
 -- The faults of a route in their order.
 abbrev pub route-fault : List Element → Route → ℕ → Option Fault
-route-fault es r i = first-of (unmet (has-path es r) cause.Path i) (unmet (is-overlap-allowed es r) cause.Overlap i)
+route-fault es r i =
+    first-of (unmet (has-path es r) cause.Path i)
+    (first-of (unmet (is-overlap-allowed es r) cause.Overlap i) (unmet (not (asks-both-ways es r)) cause.BothWays i))
 
 abbrev pub route-fault-at : List Element → List Route → ℕ → Option Fault
 route-fault-at es rs i = route-fault es (getD rs i no-route) i

@@ -44,5 +44,5 @@ abbrev pub end-to : ℕ → Element
 end-to n = record { kind = kind.PlanEnd; joins = Some (record { element = n; port = 0 }) ∷ None ∷ None ∷ []; section = None; dual = None; sort = None; marks = None }
 
 -- Two plan ends joined to each other, and no route.
-unfoldable pub fresh-drawing : Drawing
+abbrev pub fresh-drawing : Drawing
 fresh-drawing = with-element (with-element no-drawing (end-to 1)) (end-to 0)

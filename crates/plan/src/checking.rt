@@ -7,6 +7,7 @@ use crate::demand::Demand;
 use crate::fields::entry_fits;
 use crate::fields::fields_fit;
 use crate::joins::joins_fit;
+use crate::requests::asks_both_ways;
 use faults::fault::Cause;
 use faults::fault::Fault;
 use layout::drawing::Drawing;
@@ -76,6 +77,12 @@ fn check_route(elements: &[Element], route: &Route, number: usize) -> Result<(),
     if !has_allowed_overlap(elements, route) {
         return Err(Fault {
             cause: Cause::Overlap,
+            place: number,
+        });
+    }
+    if asks_both_ways(elements, route) {
+        return Err(Fault {
+            cause: Cause::BothWays,
             place: number,
         });
     }

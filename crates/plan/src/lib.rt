@@ -5,3 +5,4 @@ mod demand;
 mod fields;
 mod joins;
 pub mod plan;
+mod requests;

@@ -3,8 +3,8 @@ mod Net
 mod Chain
 mod Told
 mod Found
-mod Used
+pub mod Used
 mod Legs
-mod Flanks
-mod Tables
-mod Exactly
+pub mod Flanks
+pub mod Tables
+pub mod Exactly

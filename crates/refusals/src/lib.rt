@@ -1,0 +1,3 @@
+//! Why a call is refused.
+
+pub mod refusal;
