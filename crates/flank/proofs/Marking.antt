@@ -1,5 +1,5 @@
 -- What the search marks at each meeting.
-use mathlib.Core.Path.{_≡_, refl, sym, ap, subst, _∙_}
+use mathlib.Core.Path.{_≡_, refl, sym, ap, _∙_}
 use mathlib.Core.Bool.{Bool}
 use mathlib.Core.List.{List, [], _∷_, _++_}
 use mathlib.Core.Logic.{_⊎_, inl, inr}
@@ -10,7 +10,6 @@ use Rattle.layout.specs.declared.element.Join.{Join}
 use Rattle.layout.specs.declared.position.Position.{Position}
 use Rattle.layout.specs.Ways.{port}
 use Rattle.flank.specs.declared.answers.Mark.{Mark}
-use Rattle.flank.specs.declared.meeting.Meeting.{Meeting}
 use Rattle.flank.specs.declared.meeting.Meeting.the-variants.{Ends, Shields, AtToe, AtLeg}
 use Rattle.flank.specs.Signals.{far-end}
 use Rattle.flank.specs.Meetings.{meets}

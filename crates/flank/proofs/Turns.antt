@@ -6,7 +6,6 @@ use mathlib.Core.Logic.{inl, inr}
 use Prim.Native.Nat.{ℕ, zero, suc, _+_, _-_, _<_, _≤_}
 use native.Mathlib.Numerals.{add-one}
 use native.Mathlib.Omega.{arith}
-use lib.Dec.{eqb}
 use lib.ListN.{length, getD, take, drop}
 use lib.Seq.{drop-cons}
 use Rattle.std.proofs.shelf.Lists.{drop-all, take-all}
@@ -21,9 +20,7 @@ use Rattle.layout.specs.declared.route.Route.{Route}
 use Rattle.layout.specs.declared.route.RouteClass.{RouteClass}
 use Rattle.layout.specs.Kinds.{is-point}
 use Rattle.layout.specs.Ports.{at}
-use Rattle.layout.specs.Uses.{path-of, overlap-of}
 use Rattle.flank.specs.declared.answers.Mark.{Mark}
-use Rattle.flank.specs.declared.flanks.Flank.{Flank}
 use Rattle.flank.specs.Signals.{passes, onward, along}
 use Rattle.flank.specs.Used.{with-one, with-used, used-table}
 use Rattle.flank.specs.Flanks.{free-leg, flank-in, path-flank, overlap-flank, flank-over, flank-of}

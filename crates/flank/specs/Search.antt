@@ -9,7 +9,6 @@ use Rattle.layout.specs.declared.position.Position.{Position}
 use Rattle.layout.specs.declared.position.Position.the-variants as position
 use Rattle.layout.specs.Ways.{port}
 use Rattle.flank.specs.declared.answers.Mark.{Mark}
-use Rattle.flank.specs.declared.meeting.Meeting.{Meeting}
 use Rattle.flank.specs.declared.meeting.Meeting.the-variants.{Ends, Shields, AtToe, AtLeg}
 use Rattle.flank.specs.Signals.{far-end, along, signal-ports}
 use Rattle.flank.specs.Meetings.{meets}

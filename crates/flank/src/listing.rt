@@ -1,7 +1,7 @@
 //! Lists of the requests and of the open branches in a table.
 
 ghost use mathlib.Core.Path.{_≡_};
-ghost use Prim.Native.Nat.{_+_, _≤_, _<_};
+ghost use Prim.Native.Nat.{_+_, _<_};
 ghost use lib.ListN.{length};
 ghost use Rattle.flank.specs.Protection.{requests-at, requests-in, branches-in, put-at};
 use crate::answers::Branch;

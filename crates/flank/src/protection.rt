@@ -2,9 +2,8 @@
 
 ghost use mathlib.Core.Path.{_≡_};
 ghost use lib.ListN.{length};
-ghost use Rattle.flank.specs.Used.{used-table};
 ghost use Rattle.flank.specs.Flanks.{flank-of};
-ghost use Rattle.flank.specs.Protection.{flank-marks, no-marks, marks-below, route-marks, branches-of, put-at, counts-told, requests-told, branches-told};
+ghost use Rattle.flank.specs.Protection.{flank-marks, no-marks, route-marks, branches-of, put-at, counts-told, requests-told, branches-told};
 use crate::answers::Branch;
 use crate::answers::Mark;
 use crate::answers::Request;
@@ -57,10 +56,10 @@ fn list_branches(elements: &[Element], route: &Route, list: &mut [Branch]) -> us
 {
     let used = used_by(elements, route);
     let mut place = 0;
-    for number in 0..96u8 {
+    for point in 0..96u8 {
         let mut marked = no_marks();
-        mark_flank(elements, route, &used, number, &mut marked);
-        place = list_open(number, &marked, list, place);
+        mark_flank(elements, route, &used, point, &mut marked);
+        place = list_open(point, &marked, list, place);
     }
     place
 }
@@ -78,6 +77,7 @@ pub fn protection(
     ensures branches { λ _. ⌜ now (branches .exit) ≡ branches-told (now (elements .entry)) (now (route .entry)) (now (requests .entry)) (now (branches .entry)) ⌝ }
 {
     let marked = shields(elements, route);
+    // Listing into no place at all counts.
     let request_count = list_requests(&marked, &mut []);
     let branch_count = list_branches(elements, route, &mut []);
     if request_count > requests.len() || branch_count > branches.len() {

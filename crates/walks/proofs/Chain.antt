@@ -1,7 +1,7 @@
 -- A chain of signals that begins at no signal never comes to a port twice, so it ends before it is cut short.
-use mathlib.Core.Path.{_≡_, refl, sym, ap, subst, _∙_}
-use mathlib.Core.Bool.{Bool, true, false, _&&_}
-use mathlib.Core.List.{List, [], _∷_}
+use mathlib.Core.Path.{_≡_, refl, sym, ap, _∙_}
+use mathlib.Core.Bool.{Bool, true, false}
+use mathlib.Core.List.{List}
 use mathlib.Core.Logic.{_⊎_, inl, inr, ⊎-elim}
 use Prim.Native.Nat.{ℕ, zero, suc, _+_, _-_, _*_, _<_, _≤_}
 use native.Mathlib.Omega.{arith}
@@ -155,12 +155,3 @@ module _ (all : Bool) (es : List Element) (sound : SoundElements es) (few : leng
 
   pub along-step : {q : Join} → Chain all es q → passes all es q ≡ true → along all es signal-ports (onward es q) ≡ along all es signal-ports q
   along-step {q} c e = sym (along-suc all es signal-ports q e) ∙ along-more signal-ports q (along-stops c)
-
-  pub chain-along : (n : ℕ) {q : Join} → Chain all es q → Chain all es (along all es n q)
-  unfolding along
-  chain-along zero c = c
-  chain-along (suc n) {q} c = go (λ d. chain-along n d) (passes all es q) refl
-    where
-      go : (Chain all es (onward es q) → Chain all es (along all es n (onward es q))) → (b : Bool) → passes all es q ≡ b → Chain all es (along all es (suc n) q)
-      go ih true e = rw (e, along) (ih (goes c e))
-      go ih false e = rw (e, along) c

@@ -1,30 +1,26 @@
 -- What a route requests is what walks come to, and its open branches are where walks end open.
-use mathlib.Core.Path.{_≡_, refl, sym, ap, subst, _∙_}
-use mathlib.Core.Bool.{Bool}
+use mathlib.Core.Path.{_≡_, sym, ap, subst}
 use mathlib.Core.List.{List, []}
 use mathlib.Core.Logic.{_⊎_, inl, inr}
 use Prim.Native.Nat.{ℕ, suc, _<_, _≤_}
 use native.Mathlib.Omega.{arith}
 use lib.ListN.{length}
-use Rattle.std.specs.declared.option.Option.the-variants.{Some}
 use Rattle.layout.specs.declared.element.Element.{Element}
 use Rattle.layout.specs.declared.element.Join.{Join}
 use Rattle.layout.specs.declared.position.Position.{Position}
 use Rattle.layout.specs.declared.route.Route.{Route}
 use Rattle.layout.specs.Sound.{SoundElements}
 use Rattle.layout.specs.Uses.{path-of, overlap-of, Flank}
-use Rattle.paths.specs.Sound.{Within, SoundOverlap, HasSoundPath, AllowedOverlap}
-use Rattle.flank.specs.declared.flanks.Flank.{Flank as Leg}
+use Rattle.paths.specs.Sound.{Within, SoundOverlap}
 use Rattle.flank.specs.Used.{used-table}
 use Rattle.flank.specs.Search.{Finding, shield, open-end}
-use Rattle.flank.specs.Flanks.{flank-of}
-use Rattle.flank.specs.Protection.{request, branch, requests-of, branches-of, route-marks, marks-of}
+use Rattle.flank.specs.Protection.{request, branch, requests-of, branches-of, route-marks}
 use Rattle.walks.specs.Walks.{Walk, Requested, EndsOpen}
 use Rattle.walks.specs.Exactly.{In, Requests-exact, Branches-exact}
 use Rattle.walks.proofs.Told.{Ground}
 use Rattle.walks.proofs.Found.{Comes, walk-port, comes-found, found-comes}
 use Rattle.walks.proofs.Used.{from-table, to-table}
-use Rattle.walks.proofs.Flanks.{SoundRoute, sound-route, Leaves, flank-left, left-flank, flank-inside}
+use Rattle.walks.proofs.Flanks.{SoundRoute, sound-route, flank-left, left-flank, flank-inside}
 use Rattle.walks.proofs.Tables.{Finds, below-has, has-below, alone-has, has-alone, in-requests, requests-have, in-below, below-in}
 
 module _ (es : List Element) (r : Route) (elements : SoundElements es) (few : length es ≤ 96) (route : SoundRoute es r) where

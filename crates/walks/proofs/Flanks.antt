@@ -2,8 +2,8 @@
 use mathlib.Core.Path.{_≡_, refl, sym, ap, subst, _∙_}
 use mathlib.Core.Bool.{Bool, true, false}
 use mathlib.Core.List.{List, [], _∷_}
-use mathlib.Core.Logic.{_⊎_, _≢_, inl, inr, ⊎-elim}
-use Prim.Native.Nat.{ℕ, zero, suc, _-_, _<_, _≤_}
+use mathlib.Core.Logic.{_⊎_, inl, inr, ⊎-elim}
+use Prim.Native.Nat.{ℕ, zero, suc, _-_, _<_}
 use native.Mathlib.Omega.{arith}
 use lib.ListN.{length}
 use Rattle.std.specs.Options.{orOther}
@@ -20,7 +20,7 @@ use Rattle.layout.specs.declared.route.RouteClass.the-variants as class
 use Rattle.layout.specs.Kinds.{is-point}
 use Rattle.layout.specs.Ports.{at}
 use Rattle.layout.specs.Ways.{place}
-use Rattle.layout.specs.Uses.{numbers, path-of, overlap-of, way-beyond, Between, FlankOf, path-reach, Flank, in-path, in-overlap}
+use Rattle.layout.specs.Uses.{numbers, path-of, overlap-of, FlankOf, path-reach, Flank, in-path, in-overlap}
 use Rattle.layout.specs.Sound.{SoundElements}
 use Rattle.paths.specs.Sound.{Within, Once, last, SoundPath, SoundOverlap, HasSoundPath, AllowedOverlap, no-overlap, zero-overlap, some-overlap}
 use Rattle.flank.specs.declared.flanks.Flank.{Flank as Leg}

@@ -1,6 +1,6 @@
 -- The search out of a leg finds what the walks out of it come to, and nothing else.
 use mathlib.Core.Path.{_≡_, refl, sym, ap, subst, _∙_}
-use mathlib.Core.Bool.{Bool, true, false, not, _&&_, _||_}
+use mathlib.Core.Bool.{Bool, true, false}
 use mathlib.Core.List.{List, [], _∷_, _++_}
 use mathlib.Core.Logic.{_⊎_, _≢_, inl, inr, ⊎-elim}
 use Prim.Native.Nat.{ℕ, zero, suc, _+_, _-_, _<_, _≤_}
@@ -14,7 +14,7 @@ use Rattle.layout.specs.declared.kind.Kind.the-variants as kind
 use Rattle.layout.specs.declared.position.Position.{Position}
 use Rattle.layout.specs.declared.position.Position.the-variants as position
 use Rattle.layout.specs.declared.route.Route.{Route}
-use Rattle.layout.specs.Kinds.{ports, is-signal}
+use Rattle.layout.specs.Kinds.{is-signal}
 use Rattle.layout.specs.Ports.{at, joined}
 use Rattle.layout.specs.Ways.{port}
 use Rattle.layout.specs.Uses.{Uses, leg}
@@ -28,7 +28,7 @@ use Rattle.flank.proofs.Marking.{found-shields, found-ends, found-open, found-a
 use Rattle.walks.specs.Walks.{Is, LeadsPast, Able, Counts, Walk, leaves, passes-signal, passes-by-leg, passes-by-toe}
 use Rattle.walks.specs.Exactly.{In}
 use Rattle.walks.proofs.Net.{Port, far-is, linked}
-use Rattle.walks.proofs.Chain.{Chain, starts, goes, across-port, along-stops, along-step, chain-port, chain-along}
+use Rattle.walks.proofs.Chain.{Chain, starts, goes, across-port, along-step, chain-port}
 use Rattle.walks.proofs.Told.{Ground, Told, told, signal-kind, able-place, able-signal, signal-able}
 
 pub in-left : {A : Type 0} (a : A) (xs ys : List A) → In a xs → In a (xs ++ ys)

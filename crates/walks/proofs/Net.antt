@@ -1,8 +1,8 @@
 -- On sound elements every port is joined, to a port that is joined back to it.
-use mathlib.Core.Path.{_≡_, refl, sym, ap, subst, _∙_}
+use mathlib.Core.Path.{_≡_, sym, ap, _∙_}
 use mathlib.Core.List.{List}
-use mathlib.Core.Logic.{_⊎_, inl, inr}
-use Prim.Native.Nat.{ℕ, suc, _<_, _≤_}
+use mathlib.Core.Logic.{inl, inr}
+use Prim.Native.Nat.{ℕ, _<_}
 use native.Mathlib.Omega.{arith}
 use lib.ListN.{length}
 use Rattle.std.proofs.shelf.Tests.{cases-lt}
@@ -11,9 +11,9 @@ use Rattle.std.specs.declared.option.Option.the-variants.{Some, None}
 use Rattle.layout.specs.declared.element.Element.{Element}
 use Rattle.layout.specs.declared.element.Join.{Join}
 use Rattle.layout.specs.Kinds.{ports}
-use Rattle.layout.specs.Ports.{at, join-of, joined}
+use Rattle.layout.specs.Ports.{at, joined}
 use Rattle.layout.specs.Ways.{port}
-use Rattle.layout.specs.Sound.{HasItsFields, SoundElements}
+use Rattle.layout.specs.Sound.{SoundElements}
 use Rattle.flank.specs.Signals.{or-itself, far-end}
 
 -- a port that an element of the drawing has

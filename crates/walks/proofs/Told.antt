@@ -1,6 +1,6 @@
 -- What the search makes of each meeting, in the words of the subject.
 use mathlib.Core.Path.{_≡_, refl, sym, ap, subst, _∙_}
-use mathlib.Core.Bool.{Bool, true, false, not, _&&_, _||_}
+use mathlib.Core.Bool.{Bool, true, false}
 use mathlib.Core.List.{List}
 use mathlib.Core.Logic.{_⊎_, _≢_, inl, inr, ⊎-elim}
 use Prim.Native.Nat.{ℕ, zero, suc, _-_, _<_, _≤_}
@@ -20,8 +20,8 @@ use Rattle.layout.specs.declared.kind.Marks.{Marks}
 use Rattle.layout.specs.declared.position.Position.{Position}
 use Rattle.layout.specs.declared.position.Position.the-variants as position
 use Rattle.layout.specs.declared.route.Route.{Route}
-use Rattle.layout.specs.Kinds.{ports, is-signal}
-use Rattle.layout.specs.Ports.{at, joined}
+use Rattle.layout.specs.Kinds.{is-signal}
+use Rattle.layout.specs.Ports.{at}
 use Rattle.layout.specs.Ways.{port}
 use Rattle.layout.specs.Uses.{Uses, leg}
 use Rattle.layout.specs.Sound.{SoundElements}
@@ -30,8 +30,8 @@ use Rattle.flank.specs.declared.meeting.Meeting.the-variants.{Ends, Shields, At
 use Rattle.flank.specs.Signals.{far-end, across, onward, is-requested, is-able-signal, passes, along, signal-ports}
 use Rattle.flank.specs.Meetings.{other-leg, may-shield, beyond-toe, meets-leg, meets-kind, meets}
 use Rattle.flank.proofs.Turns.{along-rests}
-use Rattle.walks.specs.Walks.{Is, LeadsPast, Beyond, here, past, Behind, Prefers, both, plus, minus, Marked, opposite, Able, derailer, signal, point, Counts}
-use Rattle.walks.proofs.Net.{Port, far-is, linked, some-apart}
+use Rattle.walks.specs.Walks.{Is, LeadsPast, Beyond, here, past, Behind, Prefers, both, plus, minus, opposite, Able, derailer, signal, point, Counts}
+use Rattle.walks.proofs.Net.{Port, far-is, linked}
 use Rattle.walks.proofs.Chain.{Chain, starts, goes, across-port, along-stops, along-step, chain-port}
 
 -- what the theorems stand on: sound elements, few enough, and the table of what the route uses

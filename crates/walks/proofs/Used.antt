@@ -1,12 +1,12 @@
 -- The table of used elements has exactly the elements that the route uses.
-use mathlib.Core.Path.{_≡_, refl, sym, ap, subst, _∙_}
+use mathlib.Core.Path.{_≡_, refl, sym, _∙_}
 use mathlib.Core.Bool.{Bool, true, false, cond}
 use mathlib.Core.List.{List, [], _∷_}
-use mathlib.Core.Logic.{_⊎_, _≢_, inl, inr, ⊎-elim}
-use Prim.Native.Nat.{ℕ, zero, suc, _+_, _-_, _<_, _≤_}
+use mathlib.Core.Logic.{_⊎_, inl, inr, ⊎-elim}
+use Prim.Native.Nat.{ℕ, zero, suc, _-_, _<_, _≤_}
 use native.Mathlib.Numerals.{one-add}
 use native.Mathlib.Omega.{arith}
-use lib.ListN.{length, getD, set, replicate, take, drop, length-set, length-replicate, getD-replicate, length-take, length-drop}
+use lib.ListN.{length, getD, set, replicate, drop, length-set, length-replicate, getD-replicate, length-take, length-drop}
 use lib.Seq.{getD-take, getD-drop}
 use Rattle.std.proofs.shelf.Lists.{getD-past, getD-set-same, getD-set-other}
 use Rattle.std.proofs.shelf.Tests.{cases-eq, cases-lt, both-ways}
@@ -15,7 +15,7 @@ use Rattle.layout.specs.declared.route.Route.{Route}
 use Rattle.layout.specs.Kinds.{is-sectioned}
 use Rattle.layout.specs.Ports.{at}
 use Rattle.layout.specs.Ways.{place}
-use Rattle.layout.specs.Uses.{path-of, overlap-of, Between, UsesInPath, UsesInOverlap, Uses}
+use Rattle.layout.specs.Uses.{path-of, overlap-of, Uses}
 use Rattle.paths.specs.Sound.{Within}
 use Rattle.flank.specs.Used.{inner, with-one, with-used, used-table}
 

@@ -1,5 +1,3 @@
-use mathlib.Core.Path.{refl, sym, ap, subst, _∙_}
-use native.Mathlib.Omega.{arith}
 use borrow.Author.Needs.{needs}
 use Rattle.flank.proofs.Turns.{flank-no-path, flank-no-point, flank-point}
 use Rattle.flank.proofs.flanks.flank_of.Needs as need

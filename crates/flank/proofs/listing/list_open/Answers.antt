@@ -1,6 +1,5 @@
-use mathlib.Core.Path.{ap, sym, _∙_}
+use mathlib.Core.Path.{_∙_}
 use borrow.Author.Needs.{needs}
-use native.Mathlib.Omega.{arith}
 use Rattle.flank.specs.Protection.{branches-in}
 use Rattle.flank.proofs.Lists.{branches-few, branches-open, branches-shut, put-more}
 use Rattle.flank.proofs.listing.list_open.Needs as need

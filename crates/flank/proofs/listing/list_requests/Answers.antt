@@ -3,7 +3,7 @@ use borrow.Author.Needs.{needs}
 use native.Mathlib.Omega.{arith}
 use Prim.Native.Nat.{_+_}
 use lib.ListN.{length}
-use Rattle.flank.specs.Protection.{requests-in, put-at}
+use Rattle.flank.specs.Protection.{requests-in}
 use Rattle.flank.proofs.Lists.{requests-few, requests-more, put-more}
 use Rattle.flank.proofs.listing.list_requests.Needs as need
 

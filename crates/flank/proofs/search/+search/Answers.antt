@@ -1,10 +1,7 @@
 use borrow.Author.Needs.{needs}
 use mathlib.Core.Path.{sym, _∙_}
-use mathlib.Core.Logic.{inl, inr}
-use native.Mathlib.Omega.{arith}
 use Rattle.flank.proofs.Marking.{marks-ends, marks-shields, marks-open, marks-at-leg, marks-at-toe}
 use Rattle.flank.proofs.search.+search.Needs as need
-use Rattle.flank.proofs.search.+search.Needs.{in-AtToe·else-spare-gt0, in-AtLeg·else-spare-gt0-2}
 
 pub returns-in-Ends : need.returns-in-Ends
 returns-in-Ends t c = marks-ends _ _ _ _ (c .pass-signals-met .ensures) _ _ (sym (c .in-Ends .ensures tt))
