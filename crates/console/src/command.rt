@@ -7,9 +7,12 @@ use std::alloc::Global;
 pub enum Command<'a> {
     /// An empty line or a comment.
     Nothing,
-    /// Bytes of a plan, in hexadecimal digits.
+    /// To read the bytes of a plan, in hexadecimal digits.
     Plan(&'a str),
-    Unknown,
+    /// To tell of the flanks of a route.
+    Flanks(u8),
+    /// Something that no command is, in words.
+    Wrong(&'static str),
 }
 
 /// The line with a blank for each tab.
@@ -33,6 +36,22 @@ pub fn understood<'a>(line: &'a str) -> Command<'a> {
     };
     match name {
         "plan" => Command::Plan(rest),
-        _ => Command::Unknown,
+        "flanks" => flanks(rest),
+        _ => Command::Wrong("no such command"),
     }
+}
+
+fn flanks<'a>(rest: &'a str) -> Command<'a> {
+    match number(rest.trim_matches(' ')) {
+        Some(route) => Command::Flanks(route),
+        None => Command::Wrong("one number is wanted, 0 to 255"),
+    }
+}
+
+/// The number that a word of digits spells.
+fn number(word: &str) -> Option<u8> {
+    if word.starts_with('+') {
+        return None;
+    }
+    word.parse::<u8>().ok()
 }

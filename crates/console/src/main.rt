@@ -17,8 +17,9 @@ fn perform(rt: &LibcRuntime, session: &mut Session, line: &str) -> Result<(), An
     match understood(line.as_str()) {
         Command::Nothing => Ok(()),
         Command::Plan(digits) => session.read_plan(rt, digits),
-        Command::Unknown => {
-            println!(rt, "error: no such command")?;
+        Command::Flanks(route) => session.tell_flanks(rt, route),
+        Command::Wrong(words) => {
+            println!(rt, "error: {words}")?;
             Ok(())
         }
     }

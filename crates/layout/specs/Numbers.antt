@@ -1,4 +1,4 @@
--- The numbers that kinds, preferences, sorts, marks and classes have in a plan file.
+-- The numbers of kinds, preferences, sorts, marks and classes in a plan file, and of positions.
 use mathlib.Core.Bool.{Bool, true, false, cond}
 use Prim.Native.Nat.{ℕ, _+_, _/_, _%_}
 use lib.Dec.{eqb}
@@ -9,6 +9,8 @@ use Rattle.layout.specs.declared.kind.Dual.the-variants as dual
 use Rattle.layout.specs.declared.kind.Sort.{Sort}
 use Rattle.layout.specs.declared.kind.Sort.the-variants as sort
 use Rattle.layout.specs.declared.kind.Marks.{Marks}
+use Rattle.layout.specs.declared.position.Position.{Position}
+use Rattle.layout.specs.declared.position.Position.the-variants as position
 use Rattle.layout.specs.declared.route.RouteClass.{RouteClass}
 use Rattle.layout.specs.declared.route.RouteClass.the-variants as class
 
@@ -64,3 +66,7 @@ class-number class.Train = 1
 -- The class with a number; the last one where none has it.
 abbrev pub class-of : ℕ → RouteClass
 class-of n = cond (eqb n (class-number class.Shunting)) class.Shunting class.Train
+
+abbrev pub position-number : Position → ℕ
+position-number position.Plus = 0
+position-number position.Minus = 1
