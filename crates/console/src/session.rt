@@ -10,6 +10,7 @@ use std::error::AnyError;
 
 /// No route has more requests, nor more open branches, than these lists have places.
 const MOST_REQUESTS: usize = 192;
+
 const MOST_BRANCHES: usize = 9216;
 
 /// A refusal in a few words.
@@ -72,9 +73,13 @@ impl Session {
         };
         let mut requests = vec![in rt.alloc(); request; MOST_REQUESTS]?;
         let mut branches = vec![in rt.alloc(); Branch { from: 0, last: 0 }; MOST_BRANCHES]?;
-        match self.plan.flanks(route, requests.as_mut_slice(), branches.as_mut_slice()) {
+        match self.plan
+            .flanks(route, requests.as_mut_slice(), branches.as_mut_slice()) {
             Ok((request_count, branch_count)) => {
-                println!(rt, "flanks {route}: {request_count} requests, {branch_count} open branches")?;
+                println!(
+                    rt,
+                    "flanks {route}: {request_count} requests, {branch_count} open branches"
+                )?;
                 for request in requests.iter().take(request_count) {
                     let element = request.element;
                     let position = request.position.number();

@@ -1,69 +1,14 @@
-//! Runs the worked examples on the small station K, and prints each with its outcome.
+//! Runs the worked examples, and prints each with its outcome.
+
+mod stations;
 
 ghost use Rattle.examples.specs.Worked.{Worked-examples};
 use faults::fault::Fault;
+use flank::answers::Branch;
+use flank::answers::Request;
+use layout::position::Position;
 use plan::plan::Plan;
 use std::io;
-
-/// The station K: signals 1 and 3 with point 2 between them, and point 5 at its flank.
-const K: [u8; 56] = [
-    0x08,
-    0x01,
-    0x03,
-    0x04,
-    0x01,
-    0x00,
-    0x47,
-    0x03,
-    0x00,
-    0x00,
-    0x02,
-    0x00,
-    0x01,
-    0x1F,
-    0x01,
-    0x01,
-    0x01,
-    0x03,
-    0x00,
-    0x05,
-    0x02,
-    0x00,
-    0x47,
-    0x03,
-    0x02,
-    0x01,
-    0x04,
-    0x00,
-    0x01,
-    0x03,
-    0x04,
-    0x03,
-    0x01,
-    0x1F,
-    0x01,
-    0x06,
-    0x00,
-    0x07,
-    0x00,
-    0x02,
-    0x02,
-    0x01,
-    0x03,
-    0x04,
-    0x05,
-    0x00,
-    0x03,
-    0x04,
-    0x05,
-    0x01,
-    0x03,
-    0x01,
-    0x03,
-    0x01,
-    0x02,
-    0x03,
-];
 
 /// The worked examples hold of the definitions.
 pub fn examples_hold() -> bool
@@ -84,21 +29,118 @@ fn show(rt: &LibcRuntime, what: &str, answer: Result<(), Fault>) -> io::Result<(
     }
 }
 
-fn main(rt: LibcRuntime) -> io::Result<()> {
-    let stated = examples_hold();
-    println!(rt, "stated of the definitions: {stated}")?;
+/// Prints what route 0 requests, and its open branches.
+fn list_flanks(rt: &LibcRuntime, plan: &Plan) -> io::Result<()> {
+    let request = Request {
+        element: 0,
+        position: Position::Plus,
+    };
+    let mut requests = [request; 8];
+    let mut branches = [Branch { from: 0, last: 0 }; 8];
+    if let Ok((request_count, branch_count)) = plan.flanks(0, &mut requests, &mut branches) {
+        println!(rt, "{request_count} requests, {branch_count} open branches")?;
+        for request in requests.iter().take(request_count) {
+            let element = request.element;
+            let position = request.position.number();
+            println!(rt, "  request {element} {position}")?;
+        }
+        for branch in branches.iter().take(branch_count) {
+            let from = branch.from;
+            let last = branch.last;
+            println!(rt, "  open {from} {last}")?;
+        }
+    }
+    Ok(())
+}
+
+fn show_flanks(rt: &LibcRuntime, what: &str, bytes: &[u8]) -> io::Result<()> {
     let mut plan = Plan::fresh();
-    show(&rt, "no bytes", plan.read(&[]))?;
-    show(&rt, "the first 55 bytes of K", plan.read(&K[0..55]))?;
+    match plan.read(bytes) {
+        Ok(()) => {
+            print!(rt, "{what}: ")?;
+            list_flanks(rt, &plan)
+        }
+        Err(fault) => show(rt, what, Err(fault)),
+    }
+}
+
+fn readings(rt: &LibcRuntime) -> io::Result<()> {
+    let mut plan = Plan::fresh();
+    show(rt, "no bytes", plan.read(&[]))?;
+    show(
+        rt,
+        "the first 55 bytes of K",
+        plan.read(&stations::K[0..55]),
+    )?;
     let mut longer = [0; 57];
-    longer[0..56].copy_from_slice(&K);
-    show(&rt, "K and a byte 00", plan.read(&longer))?;
-    let mut turned = K;
+    longer[0..56].copy_from_slice(&stations::K);
+    show(rt, "K and a byte 00", plan.read(&longer))?;
+    let mut turned = stations::K;
     turned[49] = 2;
     show(
-        &rt,
+        rt,
         "K with the last byte of element 7 as 02",
         plan.read(&turned),
     )?;
-    show(&rt, "K", plan.read(&K))
+    show(rt, "K", plan.read(&stations::K))
+}
+
+fn flanks(rt: &LibcRuntime) -> io::Result<()> {
+    show_flanks(rt, "K", &stations::K)?;
+    show_flanks(rt, "K with point 5 turned", &stations::K_TURNED)?;
+    show_flanks(rt, "the same with a shunting route", &stations::K_SHUNTING)?;
+    show_flanks(rt, "a walk ends at a track", &stations::BY_TRACK)?;
+    show_flanks(rt, "a walk comes to a derailer", &stations::BY_DERAILER)?;
+    show_flanks(
+        rt,
+        "a marked signal met at its front",
+        &stations::BY_SIGNAL_FRONT,
+    )?;
+    show_flanks(
+        rt,
+        "a marked signal met at its rear",
+        &stations::BY_SIGNAL_REAR,
+    )?;
+    show_flanks(
+        rt,
+        "a dual point that prefers plus, met at its minus leg",
+        &stations::DUAL_PLUS,
+    )?;
+    show_flanks(
+        rt,
+        "a dual point that prefers minus, met at its minus leg",
+        &stations::DUAL_MINUS,
+    )?;
+    show_flanks(
+        rt,
+        "three points that are not able",
+        &stations::THREE_POINTS,
+    )?;
+    show_flanks(
+        rt,
+        "a walk that comes back to the overlap of its route",
+        &stations::BACK_TO_ROUTE,
+    )?;
+    show_flanks(
+        rt,
+        "a point beyond whose toe, behind a signal, the route comes next",
+        &stations::BACK_BEYOND_TOE,
+    )?;
+    show_flanks(
+        rt,
+        "a point of an overlap, whose walks reach one point only",
+        &stations::IN_OVERLAP,
+    )?;
+    show_flanks(
+        rt,
+        "a chain of signals, and then a derailer",
+        &stations::CHAIN_OF_SIGNALS,
+    )
+}
+
+fn main(rt: LibcRuntime) -> io::Result<()> {
+    let stated = examples_hold();
+    println!(rt, "stated of the definitions: {stated}")?;
+    readings(&rt)?;
+    flanks(&rt)
 }

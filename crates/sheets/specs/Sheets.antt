@@ -97,7 +97,7 @@ unfoldable pub route-sheets : List Element → List Route → Bounded RouteSheet
 route-sheets es rs = with-sheets es rs (empty-of no-sheet)
 
 -- The sheets of a drawing.
-unfoldable pub sheets-of : Drawing → Sheets
+abbrev pub sheets-of : Drawing → Sheets
 sheets-of d = record {
   elements = element-sheets (listed (d .elements));
   known = known-of (listed (d .elements));
