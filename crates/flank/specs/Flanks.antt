@@ -19,6 +19,7 @@ use Rattle.layout.specs.Ways.{place}
 use Rattle.layout.specs.Uses.{path-of, overlap-of, path-reach}
 use Rattle.flank.specs.declared.flanks.Flank.{Flank}
 
+-- Whether a join leads to the element e.
 abbrev pub leads-to : Option Join → ℕ → Bool
 leads-to None e = false
 leads-to (Some far) e = eqb (far .element) e
@@ -41,6 +42,7 @@ flank-in es before (x ∷ xs) e =
 abbrev pub path-spare : RouteClass → ℕ
 path-spare c = path-reach c - 1
 
+-- The flank with a leg, if there is one.
 abbrev pub with-spare : Option Position → ℕ → Option Flank
 with-spare None spare = None
 with-spare (Some leg) spare = Some (record { leg = leg; spare = spare })

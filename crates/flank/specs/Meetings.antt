@@ -46,7 +46,7 @@ meets-leg es used q =
           elim (may-shield (at es (q .element) .dual) (other-leg (q .port))) [ true ↦ Shields (other-leg (q .port)) | false ↦ AtLeg ]
     ]
 
--- What an element that the route does not use is to a walk, by its kind.
+-- What an element that the route does not use is to a walk, by its kind. A signal that is not able was passed before.
 abbrev pub meets-kind : Kind → List Element → List Bool → Join → Meeting
 meets-kind kind.Track es used q = Ends
 meets-kind kind.Point es used q = elim (eqb (q .port) 0) [ true ↦ AtToe | false ↦ meets-leg es used q ]

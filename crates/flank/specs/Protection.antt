@@ -39,12 +39,14 @@ marks-below es r (suc e) = flank-marks es (used-table es r) e (flank-of es r e) 
 abbrev pub route-marks : List Element → Route → List Mark
 route-marks es r = marks-below es r 96
 
+-- A request, and an open branch.
 abbrev pub request : ℕ → Position → Request
 request e p = record { element = e; position = p }
 
 abbrev pub branch : ℕ → ℕ → Branch
 branch u l = record { from = u; last = l }
 
+-- The requests of one element: plus before minus.
 abbrev pub requests-at : ℕ → Mark → List Request
 requests-at e m = cond (m .plus) (request e position.Plus ∷ []) [] ++ cond (m .minus) (request e position.Minus ∷ []) []
 
@@ -53,6 +55,7 @@ unfoldable pub requests-in : List Mark → ℕ → List Request
 requests-in t zero = []
 requests-in t (suc e) = requests-in t e ++ requests-at e (getD t e unmarked)
 
+-- The open branch from u to one element, if a walk ends open there.
 abbrev pub branch-at : ℕ → ℕ → Mark → List Branch
 branch-at u l m = cond (m .«open_end») (branch u l ∷ []) []
 

@@ -45,9 +45,11 @@ found (suc n) es used m =
 abbrev pub walk : ℕ → List Element → List Bool → Join → List Finding
 walk n es used q = found n es used (met es q)
 
+-- An element at which no walk has found anything.
 abbrev pub unmarked : Mark
 unmarked = record { plus = false; minus = false; «open_end» = false }
 
+-- An element requested in a position too, and one at which a walk ends open too.
 abbrev pub asked : Position → Mark → Mark
 asked position.Plus m = record { plus = true; minus = m .minus; «open_end» = m .«open_end» }
 asked position.Minus m = record { plus = m .plus; minus = true; «open_end» = m .«open_end» }
@@ -62,6 +64,7 @@ marked-at e p t = set t e (asked p (getD t e unmarked))
 abbrev pub opened-at : ℕ → List Mark → List Mark
 opened-at e t = set t e (opened (getD t e unmarked))
 
+-- A table with one finding marked in it.
 abbrev pub mark : Finding → List Mark → List Mark
 mark (shield e p) t = marked-at e p t
 mark (open-end e) t = opened-at e t

@@ -12,11 +12,11 @@ use Rattle.layout.specs.Kinds.{is-signal}
 use Rattle.layout.specs.Ports.{at, joined}
 use Rattle.layout.specs.Ways.{port}
 
+-- The port that a port is joined to; itself where it has no join.
 abbrev pub or-itself : Option Join → Join → Join
 or-itself None q = q
 or-itself (Some far) q = far
 
--- The port that a port is joined to; itself where it has no join.
 abbrev pub far-end : List Element → Join → Join
 far-end es q = or-itself (joined es (q .element) (q .port)) q
 
@@ -28,6 +28,7 @@ across q = port (q .element) (1 - q .port)
 abbrev pub onward : List Element → Join → Join
 onward es q = far-end es (across q)
 
+-- Whether the marks of a signal say that it is requested at flanks.
 abbrev pub is-requested : Option Marks → Bool
 is-requested None = false
 is-requested (Some m) = m .requested

@@ -81,6 +81,7 @@ pub(crate) fn meet(elements: &[Element], used: &[bool], met: Join) -> Meeting
         Kind::Track | Kind::PlanEnd => Meeting::Ends,
         Kind::Derailer => Meeting::Shields(Position::Plus),
         Kind::Signal if is_able_signal(element, met.port) => Meeting::Shields(Position::Plus),
+        // A signal that is not able was passed: no chain of signals in a sound drawing is cut short here.
         Kind::Signal => Meeting::Ends,
         Kind::Point if met.port == 0 => Meeting::AtToe,
         Kind::Point => meet_leg(elements, used, met),

@@ -9,6 +9,7 @@ use Rattle.layout.specs.declared.element.Element.{Element}
 use Rattle.layout.specs.declared.element.Join.{Join}
 use Rattle.layout.specs.declared.position.Position.{Position}
 use Rattle.layout.specs.declared.route.Route.{Route}
+use Rattle.layout.specs.Ways.{port}
 use Rattle.layout.specs.Sound.{SoundElements}
 use Rattle.layout.specs.Uses.{path-of, overlap-of, Flank}
 use Rattle.paths.specs.Sound.{Within, SoundOverlap}
@@ -16,8 +17,9 @@ use Rattle.flank.specs.Used.{used-table}
 use Rattle.flank.specs.Search.{Finding, shield, open-end}
 use Rattle.flank.specs.Protection.{request, branch, requests-of, branches-of, route-marks}
 use Rattle.walks.specs.Walks.{Walk, Requested, EndsOpen}
-use Rattle.walks.specs.Exactly.{In, Requests-exact, Branches-exact}
-use Rattle.walks.proofs.Told.{Ground}
+use Rattle.walks.specs.Exactly.{In, Chains-end, Requests-exact, Branches-exact}
+use Rattle.walks.proofs.Chain.{starts, along-stops}
+use Rattle.walks.proofs.Told.{Ground, no-signal}
 use Rattle.walks.proofs.Found.{Comes, walk-port, comes-found, found-comes}
 use Rattle.walks.proofs.Used.{from-table, to-table}
 use Rattle.walks.proofs.Flanks.{SoundRoute, sound-route, flank-left, left-flank, flank-inside}
@@ -110,6 +112,9 @@ module _ (es : List Element) (r : Route) (elements : SoundElements es) (few : le
         full = back .1 .4;
         is = back .1 .5;
       }
+
+pub chains-end : Chains-end
+chains-end es elements few able-too e p h l n = along-stops able-too es elements few (starts (port e p) (h, l) (no-signal _ n))
 
 pub requests-exact : Requests-exact
 requests-exact es r elements few path overlap e p =

@@ -48,7 +48,7 @@ signal-kind kind.Derailer e = cc
 signal-kind kind.Signal e = refl
 signal-kind kind.PlanEnd e = cc
 
-no-signal : (k : Kind) → (k ≡ kind.Signal → ⊥) → is-signal k ≡ false
+pub no-signal : (k : Kind) → (k ≡ kind.Signal → ⊥) → is-signal k ≡ false
 no-signal kind.Track n = refl
 no-signal kind.Point n = refl
 no-signal kind.Derailer n = refl

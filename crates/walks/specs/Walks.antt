@@ -50,6 +50,7 @@ pub data Prefers : Option Dual → Position → Type 0 where
 abbrev pub Marked : Element → Type 0
 Marked e = (m : Marks) × (e .marks ≡ Some m) × (m .requested ≡ true)
 
+-- The position of a point's other leg.
 abbrev pub opposite : Position → Position
 opposite position.Plus = position.Minus
 opposite position.Minus = position.Plus
