@@ -1,4 +1,4 @@
--- The numbers that kinds, preferences, sorts, marks and classes have in a plan file.
+-- The numbers of positions, and those that kinds, preferences, sorts, marks and classes have in a plan file.
 use mathlib.Core.Bool.{Bool, true, false, cond}
 use Prim.Native.Nat.{ℕ, _+_, _/_, _%_}
 use lib.Dec.{eqb}
@@ -9,8 +9,14 @@ use Rattle.layout.specs.declared.kind.Dual.the-variants as dual
 use Rattle.layout.specs.declared.kind.Sort.{Sort}
 use Rattle.layout.specs.declared.kind.Sort.the-variants as sort
 use Rattle.layout.specs.declared.kind.Marks.{Marks}
+use Rattle.layout.specs.declared.position.Position.{Position}
+use Rattle.layout.specs.declared.position.Position.the-variants as position
 use Rattle.layout.specs.declared.route.RouteClass.{RouteClass}
 use Rattle.layout.specs.declared.route.RouteClass.the-variants as class
+
+abbrev pub position-number : Position → ℕ
+position-number position.Plus = 0
+position-number position.Minus = 1
 
 abbrev pub kind-number : Kind → ℕ
 kind-number kind.Track = 0
