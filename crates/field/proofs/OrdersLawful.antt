@@ -68,9 +68,9 @@ again m e p = elim (cases-lt e 96) [
 trades : (m : Meaning) (e : ℕ) (p : Position) (f : ℕ) (q : Position) → e ≢ f → ordered (ordered m e p) f q ≡ ordered (ordered m f q) e p
 trades m e p f q apart = elim (cases-lt e 96) [
   | inl h ↦ elim (cases-lt f 96) [
-      | inl i ↦ rw (lt-ltb e 96 h, lt-ltb f 96 i) (ap (λ ds. meant ds (m .sections)) (after-trades (m .devices) e f p q apart))
-      | inr i ↦ ordered-nobody (ordered m e p) f q i ∙ ap (λ n. ordered n e p) (sym (ordered-nobody m f q i))
-    ]
+    | inl i ↦ rw (lt-ltb e 96 h, lt-ltb f 96 i) (ap (λ ds. meant ds (m .sections)) (after-trades (m .devices) e f p q apart))
+    | inr i ↦ ordered-nobody (ordered m e p) f q i ∙ ap (λ n. ordered n e p) (sym (ordered-nobody m f q i))
+  ]
   | inr h ↦ ap (λ n. ordered n f q) (ordered-nobody m e p h) ∙ sym (ordered-nobody (ordered m f q) e p h)
 ]
 
@@ -99,9 +99,9 @@ kept :
     ((d : Device) → part (device-ordered d p) ≡ part d) → (f : ℕ) → part (device-of (ordered m e p) f) ≡ part (device-of m f)
 kept m e p part stays f = elim (cases-eq f e) [
   | inl same ↦ elim (cases-lt e 96) [
-      | inl h ↦ rw (same, lt-ltb e 96 h) (kept-here (m .devices) e p part stays)
-      | inr h ↦ ap (λ n. part (device-of n f)) (ordered-nobody m e p h)
-    ]
+    | inl h ↦ rw (same, lt-ltb e 96 h) (kept-here (m .devices) e p part stays)
+    | inr h ↦ ap (λ n. part (device-of n f)) (ordered-nobody m e p h)
+  ]
   | inr apart ↦ ap part (others m e p f apart)
 ]
 

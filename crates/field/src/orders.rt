@@ -1,7 +1,6 @@
 //! What an order does to a report, and the laws of orders.
 
 ghost use mathlib.Core.Path.{_≡_};
-ghost use mathlib.Core.Bool.{true};
 ghost use Rattle.field.specs.Devices.{report-after};
 ghost use Rattle.field.specs.Orders.{OrderLaws};
 use layout::position::Position;
@@ -16,10 +15,7 @@ pub fn report_after_order(report: Option<Position>, position: Position) -> Optio
     }
 }
 
-/// Carries the laws of orders, which hold of every field.
-pub fn order_laws() -> bool
-    ensures value { λ r. ⌜ r ≡ true ⌝ }
-    ensures laws { λ _. ⌜ OrderLaws ⌝ }
-{
-    true
-}
+/// Carries the laws of orders, which hold of every field; there is nothing to run.
+pub fn order_laws()
+    ensures { λ _. ⌜ OrderLaws ⌝ }
+{}

@@ -1,10 +1,12 @@
 //! A fresh table, and how a table answers, takes orders and is told.
 
 ghost use mathlib.Core.Path.{_≡_};
-ghost use Rattle.field.specs.Meaning.{fresh-meaning};
+ghost use Rattle.field.specs.Meaning.{device-of, fresh-meaning};
 ghost use Rattle.tablefield.specs.Table.{table-meaning};
 use crate::table::TableField;
 use field::device::Device;
+use field::device::blank_device;
+use field::device::unknown_device;
 use field::field::Field;
 use field::orders::report_after_order;
 use layout::position::Position;
@@ -14,15 +16,20 @@ impl TableField {
     pub fn fresh() -> TableField
         ensures { λ r. ⌜ table-meaning r ≡ fresh-meaning ⌝ }
     {
-        let device = Device {
-            report: None,
-            blocked: false,
-            burning: false,
-            order: None,
-        };
         TableField {
-            devices: [device; 96],
+            devices: [blank_device(); 96],
             sections: [false; 64],
+        }
+    }
+
+    /// The device of an element; the unknown one where there is none.
+    fn device(&self, element: u8) -> Device
+        ensures { λ r. ⌜ r ≡ device-of (table-meaning (now (self .entry))) element ⌝ }
+    {
+        if element < 96 {
+            self.devices[element as usize]
+        } else {
+            unknown_device()
         }
     }
 }
@@ -31,35 +38,19 @@ pub impl Field for TableField as TableFieldField {
     ghost meaning = { table-meaning };
 
     fn report(&self, element: u8) -> Option<Position> {
-        if element < 96 {
-            self.devices[element as usize].report
-        } else {
-            None
-        }
+        self.device(element).report
     }
 
     fn is_blocked(&self, element: u8) -> bool {
-        if element < 96 {
-            self.devices[element as usize].blocked
-        } else {
-            true
-        }
+        self.device(element).blocked
     }
 
     fn is_burning(&self, element: u8) -> bool {
-        if element < 96 {
-            self.devices[element as usize].burning
-        } else {
-            false
-        }
+        self.device(element).burning
     }
 
     fn standing_order(&self, element: u8) -> Option<Position> {
-        if element < 96 {
-            self.devices[element as usize].order
-        } else {
-            None
-        }
+        self.device(element).order
     }
 
     fn is_occupied(&self, section: u8) -> bool {
