@@ -41,7 +41,8 @@ order-coded n = cond (eqb n (order-code position.Plus)) (Some position.Plus) (co
 abbrev pub two-bits : Bool → Bool → ℕ
 two-bits low high = cond low 1 0 + cond high 2 0
 
--- Bits 0 and 1 are the plus contact and the minus contact, bit 2 the block, bit 3 the lamp, bits 4 and 5 the order. Bits 6 and 7 say nothing.
+-- Bits 0 and 1 are the plus contact and the minus contact, bit 2 the block, bit 3 the lamp, bits 4 and 5 the order.
+-- Bits 6 and 7 say nothing.
 abbrev pub report-in : ℕ → Option Position
 report-in b = report-shown (bit b 0) (bit b 1)
 
@@ -54,6 +55,7 @@ burning-in b = bit b 3
 abbrev pub order-in : ℕ → Option Position
 order-in b = order-coded (two-bits (bit b 4) (bit b 5))
 
+-- All that a byte says of its element.
 abbrev pub device-in : ℕ → Device
 device-in b = record { report = report-in b; blocked = blocked-in b; burning = burning-in b; order = order-in b }
 

@@ -18,7 +18,8 @@ use Rattle.contacts.specs.Bytes.{device-in}
 abbrev pub byte-of : List ℕ → ℕ → ℕ
 byte-of bytes e = getD bytes e 0
 
--- A section's bit stands behind the bytes of the elements, eight sections to a byte, the lowest bit first. It is 1 for occupied.
+-- A section's bit stands behind the bytes of the elements, eight sections to a byte, the lowest bit first.
+-- It is 1 for occupied.
 abbrev pub section-byte : ℕ → ℕ
 section-byte s = 96 + s / 8
 
@@ -36,6 +37,7 @@ devices-in bytes = map (λ e. device-in (byte-of bytes e)) (counting 0 96)
 unfoldable pub sections-in : List ℕ → List Bool
 sections-in bytes = map (section-in bytes) (counting 0 64)
 
+-- What 104 bytes mean, and so what a picture means.
 abbrev pub bytes-mean : List ℕ → Meaning
 bytes-mean bytes = record { devices = devices-in bytes; sections = sections-in bytes }
 

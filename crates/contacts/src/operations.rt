@@ -10,10 +10,9 @@ use crate::byte::with_block;
 use crate::byte::with_lamp;
 use crate::byte::with_report;
 use crate::picture::ContactPicture;
-use crate::section::bit_of_section;
 use crate::section::byte_of_section;
-use bits::byte::has_bit;
-use bits::byte::with_bit;
+use crate::section::occupied_in;
+use crate::section::with_occupation;
 use field::device::Device;
 use field::device::unknown_device;
 use field::field::Field;
@@ -83,10 +82,7 @@ pub impl Field for ContactPicture as ContactPictureField {
         ensures bits { λ r. ⌜ r ≡ occupied-read (now (self .entry) .bytes) section ⌝ }
     {
         if section < 64 {
-            has_bit(
-                self.bytes[byte_of_section(section)],
-                bit_of_section(section),
-            )
+            occupied_in(self.bytes[byte_of_section(section)], section)
         } else {
             true
         }
@@ -134,7 +130,7 @@ pub impl Field for ContactPicture as ContactPictureField {
     {
         if section < 64 {
             let place = byte_of_section(section);
-            self.bytes[place] = with_bit(self.bytes[place], bit_of_section(section), occupied);
+            self.bytes[place] = with_occupation(self.bytes[place], section, occupied);
         }
     }
 }

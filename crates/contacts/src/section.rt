@@ -1,7 +1,10 @@
-//! Where the bit of a section stands.
+//! The bit of one section.
 
 ghost use mathlib.Core.Path.{_≡_};
+ghost use Rattle.bits.specs.Bits.{bit, with-bit};
 ghost use Rattle.contacts.specs.Picture.{section-byte, section-bit};
+use bits::byte::has_bit;
+use bits::byte::with_bit;
 
 /// The byte that has the bit: behind the bytes of the elements, eight sections to a byte.
 pub(crate) fn byte_of_section(section: u8) -> usize
@@ -10,9 +13,16 @@ pub(crate) fn byte_of_section(section: u8) -> usize
     96 + section as usize / 8
 }
 
-/// The bit in that byte, the lowest first.
-pub(crate) fn bit_of_section(section: u8) -> u8
-    ensures { λ r. ⌜ r ≡ section-bit section ⌝ }
+/// Whether that byte has the section occupied; the lowest section has the lowest bit.
+pub(crate) fn occupied_in(byte: u8, section: u8) -> bool
+    ensures { λ r. ⌜ r ≡ bit byte (section-bit section) ⌝ }
 {
-    section % 8
+    has_bit(byte, section % 8)
+}
+
+/// That byte with the section occupied or free.
+pub(crate) fn with_occupation(byte: u8, section: u8, occupied: bool) -> u8
+    ensures { λ r. ⌜ r ≡ with-bit byte (section-bit section) occupied ⌝ }
+{
+    with_bit(byte, section % 8, occupied)
 }

@@ -23,6 +23,7 @@ Sized m = (length (m .devices) ≡ 96) × (length (m .sections) ≡ 64)
 abbrev pub device-of : Meaning → ℕ → Device
 device-of m e = cond (ltb e 96) (getD (m .devices) e blank) unknown
 
+-- The answers for an element, each a part of its device.
 abbrev pub report-of : Meaning → ℕ → Option Position
 report-of m e = device-of m e .report
 
@@ -47,7 +48,7 @@ with-device m e d = cond (ltb e 96) (record { devices = set (m .devices) e d; se
 abbrev pub ordered : Meaning → ℕ → Position → Meaning
 ordered m e p = with-device m e (device-ordered (getD (m .devices) e blank) p)
 
--- So do the tellings of a report, a block and a lamp.
+-- A report, a block or a lamp told does so too.
 abbrev pub told-report : Meaning → ℕ → Option Position → Meaning
 told-report m e r = with-device m e (device-reporting (getD (m .devices) e blank) r)
 
@@ -61,6 +62,6 @@ told-lamp m e v = with-device m e (device-burning (getD (m .devices) e blank) v)
 abbrev pub told-occupation : Meaning → ℕ → Bool → Meaning
 told-occupation m s v = cond (ltb s 64) (record { devices = m .devices; sections = set (m .sections) s v }) m
 
--- Nothing is reported, blocked, lit, ordered or occupied.
+-- Nothing has been heard: no control, nothing blocked, dark, no orders, sections free.
 abbrev pub fresh-meaning : Meaning
 fresh-meaning = record { devices = replicate 96 blank; sections = replicate 64 false }

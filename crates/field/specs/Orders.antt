@@ -24,5 +24,6 @@ pub record OrderLaw (m : Meaning) (e : ℕ) (p : Position) : Type 0 where
   -- an order to no element does nothing
   pub nobody : 96 ≤ e → ordered m e p ≡ m
 
+-- They hold of every order in every meaning.
 abbrev pub OrderLaws : Type 0
 OrderLaws = (m : Meaning) (e : ℕ) (p : Position) → OrderLaw m e p

@@ -13,12 +13,12 @@ bits-of b place n v fits value k below = ap (λ m. bit m k) value ∙ bit-after 
 
 pub returns-then-on : need.returns-then-on
 returns-then-on c =
-    let made = mask-on (c .args .place) (c .args .byte) (c .if-place-lt8 .taken) (omega arith) ∙ ap (with-bit (c .args .byte) (c .args .place)) (sym (c .if-on .taken)) in
+    let made = c .joined .ensures ∙ mask-on (c .args .place) (c .args .byte) (c .if-place-lt8 .taken) (omega arith) ∙ ap (with-bit (c .args .byte) (c .args .place)) (sym (c .if-on .taken)) in
     record { value = made; bits = bits-of (c .args .byte) (c .args .place) _ (c .args .on) (omega arith) made }
 
 pub returns-else-on : need.returns-else-on
 returns-else-on c =
-    let made = mask-off (c .args .place) (c .args .byte) (c .if-place-lt8 .taken) (omega arith) ∙ ap (with-bit (c .args .byte) (c .args .place)) (sym (c .if-on .left)) in
+    let made = c .cleared .ensures ∙ mask-off (c .args .place) (c .args .byte) (c .if-place-lt8 .taken) (omega arith) ∙ ap (with-bit (c .args .byte) (c .args .place)) (sym (c .if-on .left)) in
     record { value = made; bits = bits-of (c .args .byte) (c .args .place) _ (c .args .on) (omega arith) made }
 
 pub returns-else-place-lt8 : need.returns-else-place-lt8
