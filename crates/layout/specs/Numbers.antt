@@ -14,6 +14,10 @@ use Rattle.layout.specs.declared.position.Position.the-variants as position
 use Rattle.layout.specs.declared.route.RouteClass.{RouteClass}
 use Rattle.layout.specs.declared.route.RouteClass.the-variants as class
 
+abbrev pub position-number : Position → ℕ
+position-number position.Plus = 0
+position-number position.Minus = 1
+
 abbrev pub kind-number : Kind → ℕ
 kind-number kind.Track = 0
 kind-number kind.Point = 1
@@ -66,7 +70,3 @@ class-number class.Train = 1
 -- The class with a number; the last one where none has it.
 abbrev pub class-of : ℕ → RouteClass
 class-of n = cond (eqb n (class-number class.Shunting)) class.Shunting class.Train
-
-abbrev pub position-number : Position → ℕ
-position-number position.Plus = 0
-position-number position.Minus = 1

@@ -1,0 +1,3 @@
+mod Counted
+mod Decoded
+mod Pictures

@@ -1,0 +1,19 @@
+-- One bit of an element is written, and its block is told.
+use borrow.Author.Needs.{needs}
+use mathlib.Core.Path.{ap, _∙_}
+use native.Mathlib.Omega.{arith}
+use lib.ListN.{getD}
+use Rattle.field.specs.Devices.{device-blocking}
+use Rattle.contacts.specs.Bytes.{device-in}
+use Rattle.contacts.proofs.Decoded.{block-told}
+use Rattle.contacts.proofs.Pictures.{element-written}
+use Rattle.contacts.proofs.operations.ContactPictureField.tell_block.Needs as need
+
+pub returns-then-element-lt96 : need.returns-then-element-lt96
+returns-then-element-lt96 c =
+    let bytes = c .args .self .now .bytes in
+    record {
+      meaning = element-written bytes (c .args .element) (c .with-block .result) (λ d. device-blocking d (c .args .blocked)) (c .args .self .now .sized) (c .if-element-lt96 .taken)
+          (ap device-in (c .with-block .ensures) ∙ block-told (getD bytes (c .args .element) 0) (c .args .blocked) (search needs));
+      bytes = search needs;
+    }
