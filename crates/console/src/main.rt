@@ -1,6 +1,7 @@
 //! The console: commands on standard input, one on a line, and what each did in print.
 
 mod command;
+mod equipment;
 mod hex;
 mod session;
 
@@ -18,6 +19,14 @@ fn perform(rt: &LibcRuntime, session: &mut Session, line: &str) -> Result<(), An
         Command::Nothing => Ok(()),
         Command::Plan(digits) => session.read_plan(rt, digits),
         Command::Flanks(route) => session.tell_flanks(rt, route),
+        Command::FieldTable => session.take_table(rt),
+        Command::FieldContacts(digits) => session.take_contacts(rt, digits),
+        Command::Contacts => session.show_contacts(rt),
+        Command::Tell(news, number, value) => session.tell(rt, news, number, value),
+        Command::Order(element, position) => session.order(rt, element, position),
+        Command::Element(element) => session.show_element(rt, element),
+        Command::Section(section) => session.show_section(rt, section),
+        Command::Show => session.show(rt),
         Command::Wrong(words) => {
             println!(rt, "error: {words}")?;
             Ok(())

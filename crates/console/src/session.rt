@@ -1,5 +1,7 @@
 //! What the console keeps from line to line, and what a command does to it.
 
+use crate::command::News;
+use crate::equipment::Equipment;
 use crate::hex::bytes_of;
 use flank::answers::Branch;
 use flank::answers::Request;
@@ -21,18 +23,121 @@ fn words_of(refusal: Refusal) -> &'static str {
     }
 }
 
-/// The plan that was read last.
+/// The plan that was read last, and the field.
 #[derive(Drop)]
 pub struct Session {
     plan: Plan,
+    field: Equipment,
+}
+
+/// What news are of, as a command says it.
+fn word_of(news: News) -> &'static str {
+    match news {
+        News::Report => "report",
+        News::Block => "block",
+        News::Lamp => "lamp",
+        News::Occupied => "occupied",
+    }
+}
+
+/// A contact picture of 104 bytes.
+fn picture_of(bytes: &[u8]) -> Option<Equipment> {
+    if bytes.len() != 104 {
+        return None;
+    }
+    let mut picture = [0; 104];
+    picture.copy_from_slice(bytes);
+    Some(Equipment::contacts(picture))
 }
 
 impl Session {
-    /// A session with a fresh plan.
+    /// A session with a fresh plan and a fresh table.
     pub fn new() -> Session {
         Session {
             plan: Plan::fresh(),
+            field: Equipment::table(),
         }
+    }
+
+    pub fn take_table(&mut self, rt: &LibcRuntime) -> Result<(), AnyError> {
+        self.field = Equipment::table();
+        println!(rt, "field: table")?;
+        Ok(())
+    }
+
+    /// Takes a contact picture from hexadecimal digits.
+    pub fn take_contacts(&mut self, rt: &LibcRuntime, digits: &str) -> Result<(), AnyError> {
+        match bytes_of(rt.alloc(), digits)? {
+            Ok(bytes) => match picture_of(bytes.as_slice()) {
+                Some(picture) => {
+                    self.field = picture;
+                    println!(rt, "field: contacts")?;
+                }
+                None => println!(rt, "error: a contact picture has 104 bytes")?,
+            },
+            Err(fault) => {
+                let words = fault.words();
+                println!(rt, "error: {words}")?;
+            }
+        }
+        Ok(())
+    }
+
+    pub fn show_contacts(&self, rt: &LibcRuntime) -> Result<(), AnyError> {
+        match self.field.contact_bytes() {
+            Some(bytes) => {
+                print!(rt, "contacts: ")?;
+                for byte in bytes {
+                    print!(rt, "{byte:02x}")?;
+                }
+                println!(rt, "")?;
+            }
+            None => println!(rt, "error: the field is a table")?,
+        }
+        Ok(())
+    }
+
+    pub fn tell(&mut self, rt: &LibcRuntime, news: News, number: u8, value: u8) -> Result<(), AnyError> {
+        self.field.tell(news, number, value);
+        let word = word_of(news);
+        println!(rt, "tell {word} {number} {value}: told")?;
+        Ok(())
+    }
+
+    pub fn order(&mut self, rt: &LibcRuntime, element: u8, position: u8) -> Result<(), AnyError> {
+        self.field.order(element, position);
+        println!(rt, "order {element} {position}: sent")?;
+        Ok(())
+    }
+
+    pub fn show_element(&self, rt: &LibcRuntime, element: u8) -> Result<(), AnyError> {
+        let answers = self.field.answers(element);
+        let report = answers.report;
+        let blocked = answers.blocked;
+        let lamp = answers.lamp;
+        let order = answers.order;
+        println!(rt, "element {element}: report {report}, blocked {blocked}, lamp {lamp}, order {order}")?;
+        Ok(())
+    }
+
+    pub fn show_section(&self, rt: &LibcRuntime, section: u8) -> Result<(), AnyError> {
+        let occupied = u8::from(self.field.is_occupied(section));
+        println!(rt, "section {section}: occupied {occupied}")?;
+        Ok(())
+    }
+
+    /// Shows what the field answers of each element of the plan, and of each section.
+    pub fn show(&self, rt: &LibcRuntime) -> Result<(), AnyError> {
+        let count = self.plan.drawing().elements.as_slice().len();
+        for element in 0..96u8 {
+            if (element as usize) < count {
+                self.show_element(rt, element)?;
+            }
+        }
+        for section in 0..64u8 {
+            self.show_section(rt, section)?;
+        }
+        Ok(())
     }
 
     /// Reads a plan from hexadecimal digits, and says what became of it.

@@ -1,5 +1,6 @@
 //! Runs the worked examples, and prints each with its outcome.
 
+mod fields;
 mod stations;
 
 ghost use Rattle.examples.specs.Worked.{Worked-examples};
@@ -142,5 +143,7 @@ fn main(rt: LibcRuntime) -> io::Result<()> {
     let stated = examples_hold();
     println!(rt, "stated of the definitions: {stated}")?;
     readings(&rt)?;
-    flanks(&rt)
+    flanks(&rt)?;
+    let differing = fields::differing();
+    println!(rt, "a table and a contact picture, ordered and told alike: {differing} answers differ")
 }
