@@ -1,6 +1,6 @@
 -- What an element's byte says after an order or a telling wrote some of its bits.
 use mathlib.Core.Path.{_≡_, refl, ap, _∙_}
-use mathlib.Core.Bool.{Bool, true, false, cond}
+use mathlib.Core.Bool.{Bool, cond}
 use Prim.Native.Nat.{ℕ, _<_}
 use lib.Dec.{eqb, lit<}
 use Rattle.std.specs.declared.option.Option.{Option}

@@ -1,7 +1,6 @@
 -- The byte of an element is written, and the order is taken.
 use borrow.Author.Needs.{needs}
 use mathlib.Core.Path.{ap, _∙_}
-use native.Mathlib.Omega.{arith}
 use lib.ListN.{getD}
 use Rattle.field.specs.Devices.{device-ordered}
 use Rattle.contacts.specs.Bytes.{device-in}

@@ -1,7 +1,6 @@
 -- One bit of an element is written, and its block is told.
 use borrow.Author.Needs.{needs}
 use mathlib.Core.Path.{ap, _∙_}
-use native.Mathlib.Omega.{arith}
 use lib.ListN.{getD}
 use Rattle.field.specs.Devices.{device-blocking}
 use Rattle.contacts.specs.Bytes.{device-in}

@@ -1,7 +1,6 @@
 -- The contacts of an element are written, and its report is told.
 use borrow.Author.Needs.{needs}
 use mathlib.Core.Path.{ap, _∙_}
-use native.Mathlib.Omega.{arith}
 use lib.ListN.{getD}
 use Rattle.field.specs.Devices.{device-reporting}
 use Rattle.contacts.specs.Bytes.{device-in}
