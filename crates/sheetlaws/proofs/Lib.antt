@@ -1,0 +1,4 @@
+mod Reading
+mod Places
+mod SectionsExact
+mod ElementsExact

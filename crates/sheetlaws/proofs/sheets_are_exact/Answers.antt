@@ -1,0 +1,15 @@
+use Rattle.plan.proofs.PlansExact.{checks-exact}
+use Rattle.sheetlaws.proofs.Reading.{sheets-in-order}
+use Rattle.sheetlaws.proofs.SectionsExact.{sections-exact}
+use Rattle.sheetlaws.proofs.ElementsExact.{elements-exact, known-exact}
+use Rattle.sheetlaws.proofs.sheets_are_exact.Needs as need
+
+pub returns : need.returns
+returns c = record {
+  sheets = c .sheets .ensures;
+  sound = checks-exact (c .args .plan .now .drawing) .0 (c .args .plan .now .sound);
+  order = sheets-in-order;
+  sections = sections-exact;
+  elements = elements-exact;
+  known = known-exact;
+}

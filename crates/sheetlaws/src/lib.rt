@@ -1,0 +1,22 @@
+//! The theorems that the sheets of a plan tell exactly what they are for.
+
+ghost use mathlib.Core.Path.{_≡_};
+ghost use Rattle.sheets.specs.Sheets.{sheets-of};
+ghost use Rattle.plan.specs.Sound.{SoundPlan};
+ghost use Rattle.sheetlaws.specs.Routes.{Sheets-in-order};
+ghost use Rattle.sheetlaws.specs.Sections.{Sections-exact};
+ghost use Rattle.sheetlaws.specs.Elements.{Elements-exact, Known-exact};
+use plan::plan::Plan;
+use sheets::sheet::Sheets;
+
+/// The sheets of a plan, which tell exactly what they are for.
+pub fn sheets_are_exact(plan: &Plan) -> &Sheets
+    ensures sheets { λ r. ⌜ now r ≡ sheets-of (now (plan .entry) .drawing) ⌝ }
+    ensures sound { λ _. ⌜ SoundPlan (now (plan .entry) .drawing) ⌝ }
+    ensures order { λ _. ⌜ Sheets-in-order ⌝ }
+    ensures sections { λ _. ⌜ Sections-exact ⌝ }
+    ensures elements { λ _. ⌜ Elements-exact ⌝ }
+    ensures known { λ _. ⌜ Known-exact ⌝ }
+{
+    plan.sheets()
+}
