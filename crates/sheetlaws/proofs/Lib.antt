@@ -2,3 +2,4 @@ mod Reading
 mod Places
 mod SectionsExact
 mod ElementsExact
+mod EndsExact

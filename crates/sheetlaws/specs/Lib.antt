@@ -1,3 +1,4 @@
 pub mod Routes
 pub mod Sections
 pub mod Elements
+pub mod Ends

@@ -6,6 +6,7 @@ ghost use Rattle.plan.specs.Sound.{SoundPlan};
 ghost use Rattle.sheetlaws.specs.Routes.{Sheets-in-order};
 ghost use Rattle.sheetlaws.specs.Sections.{Sections-exact};
 ghost use Rattle.sheetlaws.specs.Elements.{Elements-exact, Known-exact};
+ghost use Rattle.sheetlaws.specs.Ends.{Ends-exact, Showing-exact};
 use plan::plan::Plan;
 use sheets::sheet::Sheets;
 
@@ -17,6 +18,8 @@ pub fn sheets_are_exact(plan: &Plan) -> &Sheets
     ensures sections { λ _. ⌜ Sections-exact ⌝ }
     ensures elements { λ _. ⌜ Elements-exact ⌝ }
     ensures known { λ _. ⌜ Known-exact ⌝ }
+    ensures ends { λ _. ⌜ Ends-exact ⌝ }
+    ensures showing { λ _. ⌜ Showing-exact ⌝ }
 {
     plan.sheets()
 }

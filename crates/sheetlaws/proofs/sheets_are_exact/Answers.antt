@@ -2,6 +2,7 @@ use Rattle.plan.proofs.PlansExact.{checks-exact}
 use Rattle.sheetlaws.proofs.Reading.{sheets-in-order}
 use Rattle.sheetlaws.proofs.SectionsExact.{sections-exact}
 use Rattle.sheetlaws.proofs.ElementsExact.{elements-exact, known-exact}
+use Rattle.sheetlaws.proofs.EndsExact.{ends-exact, showing-exact}
 use Rattle.sheetlaws.proofs.sheets_are_exact.Needs as need
 
 pub returns : need.returns
@@ -12,4 +13,6 @@ returns c = record {
   sections = sections-exact;
   elements = elements-exact;
   known = known-exact;
+  ends = ends-exact;
+  showing = showing-exact;
 }
