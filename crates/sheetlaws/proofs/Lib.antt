@@ -3,3 +3,4 @@ mod Places
 mod SectionsExact
 mod ElementsExact
 mod EndsExact
+mod RequestsExact

@@ -2,3 +2,4 @@ pub mod Routes
 pub mod Sections
 pub mod Elements
 pub mod Ends
+pub mod Requests

@@ -7,6 +7,7 @@ ghost use Rattle.sheetlaws.specs.Routes.{Sheets-in-order};
 ghost use Rattle.sheetlaws.specs.Sections.{Sections-exact};
 ghost use Rattle.sheetlaws.specs.Elements.{Elements-exact, Known-exact};
 ghost use Rattle.sheetlaws.specs.Ends.{Ends-exact, Showing-exact};
+ghost use Rattle.sheetlaws.specs.Requests.{Sheet-requests-exact};
 use plan::plan::Plan;
 use sheets::sheet::Sheets;
 
@@ -20,6 +21,7 @@ pub fn sheets_are_exact(plan: &Plan) -> &Sheets
     ensures known { λ _. ⌜ Known-exact ⌝ }
     ensures ends { λ _. ⌜ Ends-exact ⌝ }
     ensures showing { λ _. ⌜ Showing-exact ⌝ }
+    ensures requests { λ _. ⌜ Sheet-requests-exact ⌝ }
 {
     plan.sheets()
 }

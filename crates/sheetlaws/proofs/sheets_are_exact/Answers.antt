@@ -3,6 +3,7 @@ use Rattle.sheetlaws.proofs.Reading.{sheets-in-order}
 use Rattle.sheetlaws.proofs.SectionsExact.{sections-exact}
 use Rattle.sheetlaws.proofs.ElementsExact.{elements-exact, known-exact}
 use Rattle.sheetlaws.proofs.EndsExact.{ends-exact, showing-exact}
+use Rattle.sheetlaws.proofs.RequestsExact.{sheet-requests-exact}
 use Rattle.sheetlaws.proofs.sheets_are_exact.Needs as need
 
 pub returns : need.returns
@@ -15,4 +16,5 @@ returns c = record {
   known = known-exact;
   ends = ends-exact;
   showing = showing-exact;
+  requests = sheet-requests-exact;
 }
