@@ -4,3 +4,5 @@ mod SectionsExact
 mod ElementsExact
 mod EndsExact
 mod RequestsExact
+mod OtherLeg
+mod NeedsExact

@@ -3,3 +3,4 @@ pub mod Sections
 pub mod Elements
 pub mod Ends
 pub mod Requests
+pub mod Needed

@@ -8,6 +8,7 @@ ghost use Rattle.sheetlaws.specs.Sections.{Sections-exact};
 ghost use Rattle.sheetlaws.specs.Elements.{Elements-exact, Known-exact};
 ghost use Rattle.sheetlaws.specs.Ends.{Ends-exact, Showing-exact};
 ghost use Rattle.sheetlaws.specs.Requests.{Sheet-requests-exact};
+ghost use Rattle.sheetlaws.specs.Needed.{Needs-exact};
 use plan::plan::Plan;
 use sheets::sheet::Sheets;
 
@@ -22,6 +23,7 @@ pub fn sheets_are_exact(plan: &Plan) -> &Sheets
     ensures ends { λ _. ⌜ Ends-exact ⌝ }
     ensures showing { λ _. ⌜ Showing-exact ⌝ }
     ensures requests { λ _. ⌜ Sheet-requests-exact ⌝ }
+    ensures needs { λ _. ⌜ Needs-exact ⌝ }
 {
     plan.sheets()
 }

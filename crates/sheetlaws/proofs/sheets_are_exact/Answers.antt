@@ -4,6 +4,7 @@ use Rattle.sheetlaws.proofs.SectionsExact.{sections-exact}
 use Rattle.sheetlaws.proofs.ElementsExact.{elements-exact, known-exact}
 use Rattle.sheetlaws.proofs.EndsExact.{ends-exact, showing-exact}
 use Rattle.sheetlaws.proofs.RequestsExact.{sheet-requests-exact}
+use Rattle.sheetlaws.proofs.NeedsExact.{needs-exact}
 use Rattle.sheetlaws.proofs.sheets_are_exact.Needs as need
 
 pub returns : need.returns
@@ -17,4 +18,5 @@ returns c = record {
   ends = ends-exact;
   showing = showing-exact;
   requests = sheet-requests-exact;
+  needs = needs-exact;
 }
