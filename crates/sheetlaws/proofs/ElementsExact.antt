@@ -1,16 +1,16 @@
 -- The sheets tell the kind and the section of each element, and exactly the sections in which some element of the plan lies.
 use mathlib.Core.Path.{_≡_, sym, ap, _∙_}
-use mathlib.Core.Bool.{Bool, true, false}
+use mathlib.Core.Bool.{false}
 use mathlib.Core.List.{List}
-use Prim.Native.Nat.{ℕ, _<_, _≤_}
+use Prim.Native.Nat.{ℕ, _<_}
 use native.Mathlib.Omega.{arith}
-use lib.ListN.{length, getD}
+use lib.ListN.{getD}
 use Rattle.layout.specs.declared.element.Element.{Element}
 use Rattle.sheets.specs.declared.sheet.ElementSheet.{ElementSheet}
 use Rattle.sheets.specs.Sections.{is-known, known-of}
 use Rattle.sheets.specs.Sheets.{element-sheet, no-element-sheet, element-sheets, sheets-of}
 use Rattle.sheetlaws.specs.Routes.{elements-of}
-use Rattle.sheetlaws.specs.Elements.{element-sheet-at, Elements-exact, Known-exact}
+use Rattle.sheetlaws.specs.Elements.{Elements-exact, Known-exact}
 use Rattle.sheetlaws.proofs.Reading.{by-rule-at}
 use Rattle.sheetlaws.proofs.Places.{known-sound, known-from}
 
@@ -26,7 +26,7 @@ pub elements-exact : Elements-exact
 unfolding sheets-of
 elements-exact d p e h =
     let is : getD (element-sheets (elements-of d)) e no-element-sheet ≡ element-sheet (elements-of d) e
-    = element-at (elements-of d) e (omega (arith, p .few-elements)) in
+    = element-at (elements-of d) e h in
     (ap (λ (a : ElementSheet). a .kind) is, ap (λ (a : ElementSheet). a .section) is)
 
 pub known-exact : Known-exact

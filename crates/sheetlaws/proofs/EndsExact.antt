@@ -2,10 +2,9 @@
 use mathlib.Core.Path.{_≡_, refl, sym, ap, subst, _∙_}
 use mathlib.Core.Bool.{Bool, true, false, cond, _||_}
 use mathlib.Core.List.{List}
-use Prim.Native.Nat.{ℕ, suc, _-_, _<_, _≤_}
+use Prim.Native.Nat.{ℕ, _<_}
 use native.Mathlib.Omega.{arith}
-use lib.Dec.{ltb}
-use lib.ListN.{length, getD}
+use lib.ListN.{length}
 use Rattle.std.proofs.shelf.Tests.{cond-true, lt-ltb, or-parts, or-from}
 use Rattle.std.specs.declared.option.Option.{Option}
 use Rattle.std.specs.declared.option.Option.the-variants.{Some, None}
@@ -16,19 +15,16 @@ use Rattle.layout.specs.declared.kind.Marks.{Marks}
 use Rattle.layout.specs.declared.route.Route.{Route}
 use Rattle.layout.specs.Kinds.{is-signal}
 use Rattle.layout.specs.Ports.{at}
-use Rattle.layout.specs.Ways.{place}
 use Rattle.layout.specs.Uses.{path-of}
 use Rattle.layout.proofs.JoinPorts.{some-apart}
 use Rattle.layout.proofs.KindTests.{signal-test}
-use Rattle.paths.specs.Sound.{last}
-use Rattle.walks.proofs.Flanks.{SoundRoute, sound-route}
+use Rattle.walks.proofs.Flanks.{sound-route}
 use Rattle.sheets.specs.declared.sheet.RouteSheet.{RouteSheet}
-use Rattle.sheets.specs.declared.sheet.Showing.{Showing}
-use Rattle.sheets.specs.Sheets.{showing-of, first-of, signal-at, last-signal-of, is-spared, end-lamp-of, no-sheet, sheet-of}
+use Rattle.sheets.specs.Sheets.{showing-of, signal-at, is-spared, end-lamp-of, no-sheet, sheet-of}
 use Rattle.plan.specs.Flanks.{route-of}
 use Rattle.plan.specs.Sound.{SoundPlan}
 use Rattle.sheetlaws.specs.Routes.{HasRoute, elements-of, sheet-at}
-use Rattle.sheetlaws.specs.Ends.{first-element, last-element, EndsAtSignal, KeepsLamp, ProvesLamp, Ends-exact, Showing-exact}
+use Rattle.sheetlaws.specs.Ends.{first-element, last-element, EndsAtSignal, ProvesLamp, Ends-exact, Showing-exact}
 use Rattle.sheetlaws.proofs.Reading.{sheets-in-order}
 
 -- a value that is there under a condition

@@ -6,3 +6,4 @@ mod EndsExact
 mod RequestsExact
 mod OtherLeg
 mod NeedsExact
+mod OneStart

@@ -1,16 +1,15 @@
 -- The sheet of a route tells exactly the elements that the route itself needs, with their positions.
 use mathlib.Core.Path.{_≡_, refl, sym, ap, subst, _∙_}
-use mathlib.Core.Bool.{Bool, true, false, cond, _&&_}
+use mathlib.Core.Bool.{Bool, true, false, cond}
 use mathlib.Core.List.{List, [], _∷_}
 use mathlib.Core.Logic.{_≢_, _⊎_, inl, inr}
-use Prim.Native.Nat.{ℕ, suc, _-_, _<_, _≤_}
+use Prim.Native.Nat.{ℕ, _<_, _≤_}
 use native.Mathlib.Omega.{arith}
-use lib.Dec.{ltb, eqb}
+use lib.Dec.{ltb}
 use lib.ListN.{length, getD}
 use Rattle.std.proofs.shelf.Tests.{and-parts, and-from, eqb-true, eq-eqb, lt-ltb}
 use Rattle.std.specs.declared.option.Option.{Option}
 use Rattle.std.specs.declared.option.Option.the-variants.{Some, None}
-use Rattle.layout.specs.declared.drawing.Drawing.{Drawing}
 use Rattle.layout.specs.declared.element.Element.{Element}
 use Rattle.layout.specs.declared.kind.Kind.{Kind}
 use Rattle.layout.specs.declared.kind.Kind.the-variants as kind
@@ -22,7 +21,7 @@ use Rattle.layout.specs.Kinds.{is-point}
 use Rattle.layout.specs.Ports.{at}
 use Rattle.layout.specs.Sound.{SoundElements}
 use Rattle.layout.specs.Ways.{place}
-use Rattle.layout.specs.Uses.{path-of, overlap-of, way-beyond, Uses, PassesIn, FlankOf, Flank, in-path, in-overlap}
+use Rattle.layout.specs.Uses.{path-of, overlap-of, way-beyond, PassesIn, FlankOf, Flank, in-path, in-overlap}
 use Rattle.layout.proofs.JoinPorts.{some-apart}
 use Rattle.paths.specs.Sound.{SoundOverlap}
 use Rattle.flank.specs.declared.flanks.Flank.{Flank as Leg}
@@ -34,8 +33,7 @@ use Rattle.walks.proofs.Exactly.{overlap-within}
 use Rattle.sheets.specs.declared.sheet.Want.{Want}
 use Rattle.sheets.specs.Wants.{other, moved-need, passed-need, starts-at, need-at, want-at}
 use Rattle.plan.specs.Flanks.{route-of}
-use Rattle.plan.specs.Sound.{SoundPlan}
-use Rattle.sheetlaws.specs.Routes.{HasRoute, elements-of}
+use Rattle.sheetlaws.specs.Routes.{elements-of}
 use Rattle.sheetlaws.specs.Requests.{want-of}
 use Rattle.sheetlaws.specs.Needed.{Needs, starts, passes-in-path, passes-in-overlap, derails, Needs-exact}
 use Rattle.sheetlaws.proofs.RequestsExact.{want-is}

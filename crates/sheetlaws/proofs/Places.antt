@@ -1,12 +1,11 @@
 -- The test for a section over a way passes exactly if an element at some place of the way lies in it.
-use mathlib.Core.Path.{_≡_, refl, sym, ap, _∙_}
+use mathlib.Core.Path.{_≡_, refl, sym, ap}
 use mathlib.Core.Bool.{Bool, true, false, not}
 use mathlib.Core.List.{List}
 use Prim.Native.Nat.{ℕ, _+_, _<_, _≤_}
 use native.Mathlib.Omega.{arith}
-use lib.Dec.{eqb}
 use lib.ListN.{length}
-use Rattle.std.proofs.shelf.Tests.{not-true, not-false, not-from-false, both-ways, eqb-true, eq-eqb, true≢false}
+use Rattle.std.proofs.shelf.Tests.{not-true, not-false, both-ways, eqb-true, eq-eqb, true≢false}
 use Rattle.std.specs.declared.option.Option.{Option}
 use Rattle.std.specs.declared.option.Option.the-variants.{Some, None}
 use Rattle.layout.specs.declared.element.Element.{Element}
@@ -14,7 +13,7 @@ use Rattle.layout.specs.Every.{every}
 use Rattle.layout.specs.Ports.{at}
 use Rattle.layout.specs.Ways.{place}
 use Rattle.layout.proofs.EveryTurn.{every-each, every-not}
-use Rattle.sheets.specs.Sections.{is-section, lies-in, is-outside, is-on-way, is-elsewhere, is-known}
+use Rattle.sheets.specs.Sections.{is-section, lies-in, is-on-way, is-known}
 
 section-test : (o : Option ℕ) (s : ℕ) → is-section o s ≡ true → o ≡ Some s
 section-test None s e = absurd (true≢false (sym e))

@@ -1,11 +1,10 @@
 -- A table filled by a rule has at each place what the rule says, and the sheets of routes stand in the order of the routes.
-use mathlib.Core.Path.{_≡_, refl, sym, ap, _∙_}
+use mathlib.Core.Path.{_≡_, sym, ap, _∙_}
 use mathlib.Core.List.{List, [], _∷_, _++_, map, append-nil, append-assoc}
-use mathlib.Core.Logic.{_⊎_, inl, inr}
+use mathlib.Core.Logic.{inl, inr}
 use Prim.Native.Nat.{ℕ, zero, suc, _+_, _<_, _≤_, min}
-use native.Mathlib.Numerals.{add-one}
 use native.Mathlib.Omega.{arith}
-use lib.ListN.{length, getD, set, take, replicate, length-set, length-replicate, length-map}
+use lib.ListN.{length, getD, set, length-set, length-replicate, length-map}
 use lib.Seq.{take-suc-set}
 use Rattle.std.proofs.shelf.Lists.{getD-set-same, getD-set-other, getD-map}
 use Rattle.std.proofs.shelf.Tests.{cases-eq, cond-true, lt-ltb}

@@ -2,11 +2,9 @@
 use mathlib.Core.Path.{_≡_, refl, sym, ap, _∙_}
 use mathlib.Core.Bool.{Bool, true, false, cond}
 use mathlib.Core.List.{List}
-use Prim.Native.Nat.{ℕ, _<_, _≤_}
+use Prim.Native.Nat.{ℕ, _<_}
 use native.Mathlib.Omega.{arith}
-use lib.ListN.{length, getD}
-use Rattle.std.proofs.shelf.Tests.{both-ways}
-use Rattle.std.specs.declared.option.Option.{Option}
+use lib.ListN.{getD}
 use Rattle.std.specs.declared.option.Option.the-variants.{Some, None}
 use Rattle.layout.specs.declared.drawing.Drawing.{Drawing}
 use Rattle.layout.specs.declared.element.Element.{Element}
@@ -26,7 +24,7 @@ use Rattle.sheets.specs.Wants.{requested, want-at, no-want, wants-of}
 use Rattle.sheets.specs.Sheets.{no-sheet, sheet-of}
 use Rattle.plan.specs.Flanks.{route-of}
 use Rattle.plan.specs.Sound.{SoundPlan}
-use Rattle.sheetlaws.specs.Routes.{HasRoute, elements-of, sheet-at}
+use Rattle.sheetlaws.specs.Routes.{HasRoute, elements-of}
 use Rattle.sheetlaws.specs.Requests.{want-of, Sheet-requests-exact}
 use Rattle.sheetlaws.proofs.Reading.{by-rule-at, sheets-in-order}
 

@@ -1,20 +1,19 @@
 -- The sheet of a route tells exactly the sections that the route uses in its path and in its overlap.
 use mathlib.Core.Path.{_≡_, refl, sym, ap, subst, _∙_}
-use mathlib.Core.Bool.{Bool, true, false}
+use mathlib.Core.Bool.{true}
 use mathlib.Core.List.{List}
-use Prim.Native.Nat.{ℕ, suc, _-_, _<_, _≤_}
+use Prim.Native.Nat.{ℕ, suc, _-_, _<_}
 use native.Mathlib.Omega.{arith}
 use lib.ListN.{length, getD}
 use Rattle.std.specs.Options.{isSome}
-use Rattle.std.specs.declared.option.Option.the-variants.{Some, None}
-use Rattle.layout.specs.declared.drawing.Drawing.{Drawing}
+use Rattle.std.specs.declared.option.Option.the-variants.{Some}
 use Rattle.layout.specs.declared.element.Element.{Element}
 use Rattle.layout.specs.declared.route.Route.{Route}
 use Rattle.layout.specs.Kinds.{is-sectioned}
 use Rattle.layout.specs.Ports.{at}
 use Rattle.layout.specs.Sound.{SoundElements}
 use Rattle.layout.specs.Ways.{place}
-use Rattle.layout.specs.Uses.{path-of, overlap-of, UsesInPath, UsesInOverlap, UsesSectionInPath, UsesSectionInOverlap}
+use Rattle.layout.specs.Uses.{path-of, overlap-of, UsesSectionInPath, UsesSectionInOverlap}
 use Rattle.paths.specs.Sound.{Within}
 use Rattle.flank.specs.Used.{inner}
 use Rattle.walks.proofs.Used.{inner-length, inner-place}
@@ -25,8 +24,7 @@ use Rattle.sheets.specs.declared.sheet.SectionUse.{SectionUse}
 use Rattle.sheets.specs.Sections.{is-on-way, section-use, no-use, sections-of}
 use Rattle.sheets.specs.Sheets.{no-sheet, sheet-of}
 use Rattle.plan.specs.Flanks.{route-of}
-use Rattle.plan.specs.Sound.{SoundPlan}
-use Rattle.sheetlaws.specs.Routes.{HasRoute, elements-of, sheet-at}
+use Rattle.sheetlaws.specs.Routes.{elements-of}
 use Rattle.sheetlaws.specs.Sections.{use-of, Sections-exact}
 use Rattle.sheetlaws.proofs.Reading.{by-rule-at, sheets-in-order}
 use Rattle.sheetlaws.proofs.Places.{on-way-sound, on-way-from}

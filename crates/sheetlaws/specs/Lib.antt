@@ -4,3 +4,4 @@ pub mod Elements
 pub mod Ends
 pub mod Requests
 pub mod Needed
+pub mod Starts

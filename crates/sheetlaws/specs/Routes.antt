@@ -6,7 +6,6 @@ use lib.ListN.{length, getD}
 use Rattle.bounded.specs.Lists.{listed}
 use Rattle.layout.specs.declared.drawing.Drawing.{Drawing}
 use Rattle.layout.specs.declared.element.Element.{Element}
-use Rattle.layout.specs.declared.route.Route.{Route}
 use Rattle.sheets.specs.declared.sheet.RouteSheet.{RouteSheet}
 use Rattle.sheets.specs.Sheets.{no-sheet, sheet-of, sheets-of}
 use Rattle.plan.specs.Flanks.{route-of}

@@ -9,6 +9,7 @@ ghost use Rattle.sheetlaws.specs.Elements.{Elements-exact, Known-exact};
 ghost use Rattle.sheetlaws.specs.Ends.{Ends-exact, Showing-exact};
 ghost use Rattle.sheetlaws.specs.Requests.{Sheet-requests-exact};
 ghost use Rattle.sheetlaws.specs.Needed.{Needs-exact};
+ghost use Rattle.sheetlaws.specs.Starts.{One-start};
 use plan::plan::Plan;
 use sheets::sheet::Sheets;
 
@@ -24,6 +25,7 @@ pub fn sheets_are_exact(plan: &Plan) -> &Sheets
     ensures showing { λ _. ⌜ Showing-exact ⌝ }
     ensures requests { λ _. ⌜ Sheet-requests-exact ⌝ }
     ensures needs { λ _. ⌜ Needs-exact ⌝ }
+    ensures starts { λ _. ⌜ One-start ⌝ }
 {
     plan.sheets()
 }

@@ -70,7 +70,7 @@ module _ (es : List Element) (path overlap : List ℕ) (within : Within es path)
   beyond-within zero h = within (last path) (omega (arith, sound .some-path))
   beyond-within (suc k) h = sound .within k (omega arith)
 
-  pub beyond-once : Once (place path (last path) ∷ overlap)
+  beyond-once : Once (place path (last path) ∷ overlap)
   beyond-once zero zero l h = absurd (omega arith)
   beyond-once zero (suc k) l h = sound .apart (last path) k (omega (arith, sound .some-path)) (omega arith)
   beyond-once (suc j) zero l h = absurd (omega arith)

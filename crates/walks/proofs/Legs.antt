@@ -33,10 +33,10 @@ leads-test o a q h = ap (λ (x : Option Join). leads-to x a) h ∙ eq-eqb a a re
 -- the element at the place suc k of a way that runs, where it is a point
 module _ (es : List Element) (sound : SoundElements es) (way : List ℕ) (within : Within es way) (runs : Runs es way)
     (k : ℕ) (short : suc (suc k) < length way) (is-point : at es (place way (suc k)) .kind ≡ kind.Point) where
-  pub entered : joined es (place way (suc k)) (runs .enters (suc k)) ≡ Some (port (place way k) (runs .leaves k))
+  entered : joined es (place way (suc k)) (runs .enters (suc k)) ≡ Some (port (place way k) (runs .leaves k))
   entered = sound .joins .back (place way k) (runs .leaves k) (port (place way (suc k)) (runs .enters (suc k))) (within k (omega arith)) (runs .joins k (omega arith))
 
-  pub left : joined es (place way (suc k)) (runs .leaves (suc k)) ≡ Some (port (place way (suc (suc k))) (runs .enters (suc (suc k))))
+  left : joined es (place way (suc k)) (runs .leaves (suc k)) ≡ Some (port (place way (suc (suc k))) (runs .enters (suc (suc k))))
   left = runs .joins (suc k) short
 
   pub low-entered : runs .enters (suc k) < 3

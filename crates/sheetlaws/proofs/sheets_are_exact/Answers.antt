@@ -5,6 +5,7 @@ use Rattle.sheetlaws.proofs.ElementsExact.{elements-exact, known-exact}
 use Rattle.sheetlaws.proofs.EndsExact.{ends-exact, showing-exact}
 use Rattle.sheetlaws.proofs.RequestsExact.{sheet-requests-exact}
 use Rattle.sheetlaws.proofs.NeedsExact.{needs-exact}
+use Rattle.sheetlaws.proofs.OneStart.{one-start}
 use Rattle.sheetlaws.proofs.sheets_are_exact.Needs as need
 
 pub returns : need.returns
@@ -19,4 +20,5 @@ returns c = record {
   showing = showing-exact;
   requests = sheet-requests-exact;
   needs = needs-exact;
+  starts = one-start;
 }
