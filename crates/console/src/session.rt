@@ -97,7 +97,13 @@ impl Session {
         Ok(())
     }
 
-    pub fn tell(&mut self, rt: &LibcRuntime, news: News, number: u8, value: u8) -> Result<(), AnyError> {
+    pub fn tell(
+        &mut self,
+        rt: &LibcRuntime,
+        news: News,
+        number: u8,
+        value: u8,
+    ) -> Result<(), AnyError> {
         self.field.tell(news, number, value);
         let word = word_of(news);
         println!(rt, "tell {word} {number} {value}: told")?;
@@ -116,7 +122,10 @@ impl Session {
         let blocked = answers.blocked;
         let lamp = answers.lamp;
         let order = answers.order;
-        println!(rt, "element {element}: report {report}, blocked {blocked}, lamp {lamp}, order {order}")?;
+        println!(
+            rt,
+            "element {element}: report {report}, blocked {blocked}, lamp {lamp}, order {order}"
+        )?;
         Ok(())
     }
 

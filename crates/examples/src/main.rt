@@ -145,5 +145,8 @@ fn main(rt: LibcRuntime) -> io::Result<()> {
     readings(&rt)?;
     flanks(&rt)?;
     let differing = fields::differing();
-    println!(rt, "a table and a contact picture, ordered and told alike: {differing} answers differ")
+    println!(
+        rt,
+        "a table and a contact picture, ordered and told alike: {differing} answers differ"
+    )
 }

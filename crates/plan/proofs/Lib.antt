@@ -2,4 +2,4 @@ mod FirstTurn
 mod FieldsExact
 mod JoinsExact
 mod OneWay
-mod PlansExact
+pub mod PlansExact

@@ -26,7 +26,7 @@ use Rattle.walks.proofs.Flanks.{SoundRoute, sound-route, flank-left, left-flan
 use Rattle.walks.proofs.Tables.{Finds, below-has, has-below, alone-has, has-alone, in-requests, requests-have, in-below, below-in}
 
 module _ (es : List Element) (r : Route) (elements : SoundElements es) (few : length es ≤ 96) (route : SoundRoute es r) where
-  overlap-within : Within es (overlap-of r)
+  pub overlap-within : Within es (overlap-of r)
   overlap-within = go (route .overlap)
     where
       go : (overlap-of r ≡ []) ⊎ SoundOverlap es (path-of r) (overlap-of r) → Within es (overlap-of r)

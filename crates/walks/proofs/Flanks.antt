@@ -66,7 +66,7 @@ either-way c None None f h = absurd (some-apart f h)
 
 -- the overlap beyond the last signal of the path
 module _ (es : List Element) (path overlap : List ℕ) (within : Within es path) (sound : SoundOverlap es path overlap) where
-  beyond-within : Within es (place path (last path) ∷ overlap)
+  pub beyond-within : Within es (place path (last path) ∷ overlap)
   beyond-within zero h = within (last path) (omega (arith, sound .some-path))
   beyond-within (suc k) h = sound .within k (omega arith)
 

@@ -39,25 +39,25 @@ module _ (es : List Element) (sound : SoundElements es) (way : List ℕ) (within
   left : joined es (place way (suc k)) (runs .leaves (suc k)) ≡ Some (port (place way (suc (suc k))) (runs .enters (suc (suc k))))
   left = runs .joins (suc k) short
 
-  low-entered : runs .enters (suc k) < 3
+  pub low-entered : runs .enters (suc k) < 3
   low-entered = rw is-point at (join-low es sound (place way (suc k)) (runs .enters (suc k)) _ (within (suc k) (omega arith)) entered)
 
-  low-left : runs .leaves (suc k) < 3
+  pub low-left : runs .leaves (suc k) < 3
   low-left = rw is-point at (join-low es sound (place way (suc k)) (runs .leaves (suc k)) _ (within (suc k) (omega arith)) left)
 
-  turned : Turns kind.Point (runs .enters (suc k)) (runs .leaves (suc k))
+  pub turned : Turns kind.Point (runs .enters (suc k)) (runs .leaves (suc k))
   turned = rw is-point at (runs .turns (suc k) (omega arith) short)
 
   by-ports : (p : ℕ) → PassesBy es way k p → (p ≡ runs .enters (suc k)) ⊎ (p ≡ runs .leaves (suc k))
   by-ports p (inl h) = inl (sound .joins .once (place way (suc k)) p (runs .enters (suc k)) _ _ (within (suc k) (omega arith)) (h .1) entered refl)
   by-ports p (inr h) = inr (sound .joins .once (place way (suc k)) p (runs .leaves (suc k)) _ _ (within (suc k) (omega arith)) (h .1) left refl)
 
-  ports-by : (p : ℕ) → (p ≡ runs .enters (suc k)) ⊎ (p ≡ runs .leaves (suc k)) → PassesBy es way k p
+  pub ports-by : (p : ℕ) → (p ≡ runs .enters (suc k)) ⊎ (p ≡ runs .leaves (suc k)) → PassesBy es way k p
   ports-by p (inl i) = inl (runs .leaves k, rw i entered)
   ports-by p (inr i) = inr (runs .enters (suc (suc k)), rw i left)
 
   -- a way passes by one leg
-  one-leg : PassesBy es way k 1 → PassesBy es way k 2 → ⊥
+  pub one-leg : PassesBy es way k 1 → PassesBy es way k 2 → ⊥
   one-leg a b = go (by-ports 1 a) (by-ports 2 b) (turned .1 refl)
     where
       go : (1 ≡ runs .enters (suc k)) ⊎ (1 ≡ runs .leaves (suc k)) → (2 ≡ runs .enters (suc k)) ⊎ (2 ≡ runs .leaves (suc k))

@@ -1,10 +1,10 @@
 mod Pigeon
-mod Net
+pub mod Net
 mod Chain
 mod Told
 mod Found
 pub mod Used
-mod Legs
+pub mod Legs
 pub mod Flanks
 pub mod Tables
 pub mod Exactly

@@ -73,10 +73,10 @@ module _ (es : List Element) where
   used-at (x ∷ way) t e zero l m i s = used-keeps way (with-one es x t) e (rw (one-length x t) l) (rw i (one-sets t e l s))
   used-at (x ∷ way) t e (suc k) l m i s = used-at way (with-one es x t) e k (rw (one-length x t) l) (omega arith) i s
 
-inner-length : (path : List ℕ) → length (inner path) ≡ length path - 1 - 1
+pub inner-length : (path : List ℕ) → length (inner path) ≡ length path - 1 - 1
 inner-length path = simp (length-take, length-drop) (omega arith)
 
-inner-place : (path : List ℕ) (k : ℕ) → k < length path - 1 - 1 → place (inner path) k ≡ place path (suc k)
+pub inner-place : (path : List ℕ) (k : ℕ) → k < length path - 1 - 1 → place (inner path) k ≡ place path (suc k)
 inner-place path k h = getD-take (length path - 1 - 1) (drop 1 path) k 0 h ∙ (getD-drop 1 path k 0 ∙ rw one-add)
 
 none-used : (n e : ℕ) → getD (replicate n false) e false ≡ false
