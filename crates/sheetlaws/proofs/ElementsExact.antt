@@ -23,14 +23,12 @@ unfolding known-of
 known-at es s h = by-rule-at 64 false (is-known es) 64 s false h (omega arith)
 
 pub elements-exact : Elements-exact
-unfolding sheets-of
 elements-exact d p e h =
     let is : getD (element-sheets (elements-of d)) e no-element-sheet ≡ element-sheet (elements-of d) e
     = element-at (elements-of d) e h in
     (ap (λ (a : ElementSheet). a .kind) is, ap (λ (a : ElementSheet). a .section) is)
 
 pub known-exact : Known-exact
-unfolding sheets-of
 known-exact d p s h =
     let es : List Element = elements-of d in
     ((λ t. known-sound es s (sym (known-at es s h) ∙ t)), (λ x. known-at es s h ∙ known-from es s (x .0) (x .1) (x .2)))

@@ -65,7 +65,6 @@ module _ (es : List Element) where
   routes-listed rs h = with-listed rs (empty-of no-sheet) (length-replicate 64 no-sheet) (omega arith)
 
 pub sheets-in-order : Sheets-in-order
-unfolding sheets-of
 sheets-in-order d s =
     let es : List Element = listed (d .elements) in
     let rs : List Route = listed (d .routes) in
