@@ -17,12 +17,13 @@ use Rattle.layout.specs.Kinds.{ports, is-sectioned, is-signal}
 use Rattle.layout.specs.Ports.{at, join-of, joined}
 use Rattle.layout.specs.Ways.{port}
 
--- An element has the fields of its kind, and no other: a join for each of its ports; a section where it is a track,
--- a point or a derailer; a sort where it is a signal; the dual field only where it is a point, marks only where it is a signal.
+-- An element has the fields of its kind, and no other: a join for each of its ports; a section, numbered 0 to 63, where it is
+-- a track, a point or a derailer; a sort where it is a signal; the dual field only where it is a point, marks only where it is a signal.
 pub record HasItsFields (e : Element) : Type 0 where
   pub each-port : (p : ℕ) → p < ports (e .kind) → (j : Join) × (join-of e p ≡ Some j)
   pub no-other : (p : ℕ) → ports (e .kind) ≤ p → join-of e p ≡ None
   pub section : isSome (e .section) ≡ is-sectioned (e .kind)
+  pub section-low : (s : ℕ) → e .section ≡ Some s → s < 64
   pub sort : isSome (e .sort) ≡ is-signal (e .kind)
   pub dual : isSome (e .dual) ≡ true → e .kind ≡ kind.Point
   pub marks : isSome (e .marks) ≡ true → e .kind ≡ kind.Signal

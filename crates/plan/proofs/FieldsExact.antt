@@ -5,7 +5,7 @@ use mathlib.Core.Logic.{_⊎_, inl, inr}
 use Prim.Native.Nat.{ℕ, _<_, _≤_}
 use native.Mathlib.Omega.{arith}
 use lib.Dec.{ltb}
-use Rattle.std.proofs.shelf.Tests.{and-parts, and-from, or-cases, or-left, or-right, not-true, not-from-false, cases-bool, cases-lt, lt-ltb, le-ltb, true≢false, both-ways}
+use Rattle.std.proofs.shelf.Tests.{and-parts, and-from, or-cases, or-left, or-right, not-true, not-from-false, cases-bool, cases-lt, lt-ltb, le-ltb, ltb-true, true≢false, both-ways}
 use Rattle.std.specs.Options.{isSome}
 use Rattle.std.specs.declared.option.Option.{Option}
 use Rattle.std.specs.declared.option.Option.the-variants.{Some, None}
@@ -21,7 +21,7 @@ use Rattle.layout.specs.Ports.{join-of}
 use Rattle.layout.specs.Sound.{HasItsFields}
 use Rattle.layout.proofs.JoinPorts.{low-cases}
 use Rattle.layout.proofs.KindTests.{point-test, signal-test}
-use Rattle.plan.specs.ElementTests.{agree, are-joins-its-own, are-fields-needed, are-fields-allowed, has-its-fields, is-entry, is-requested, is-entry-unmarked}
+use Rattle.plan.specs.ElementTests.{agree, are-joins-its-own, are-fields-needed, are-fields-allowed, is-section-low, has-its-fields, is-entry, is-requested, is-entry-unmarked}
 
 agree-same : (a b : Bool) → agree a b ≡ true → a ≡ b
 agree-same true true e = refl
@@ -87,16 +87,26 @@ only-from : (there holds : Bool) → (there ≡ true → holds ≡ true) → (no
 only-from true holds h = h refl
 only-from false holds h = refl
 
+-- a section has a number that sections have
+low-sound : (o : Option ℕ) (s : ℕ) → o ≡ Some s → is-section-low o ≡ true → s < 64
+low-sound o s is t = ltb-true s 64 (sym (ap is-section-low is) ∙ t)
+
+low-from : (o : Option ℕ) → ((s : ℕ) → o ≡ Some s → s < 64) → is-section-low o ≡ true
+low-from None h = refl
+low-from (Some s) h = lt-ltb s 64 (h s refl)
+
 pub fields-sound : (e : Element) → has-its-fields e ≡ true → HasItsFields e
 fields-sound e t =
     let a = and-parts (are-joins-its-own e) _ t in
     let b = and-parts (are-fields-needed e) _ (a .1) in
     let needed = and-parts (agree (isSome (e .section)) (is-sectioned (e .kind))) _ (b .0) in
-    let allowed = and-parts (not (isSome (e .dual)) || is-point (e .kind)) _ (b .1) in
+    let c = and-parts (are-fields-allowed e) _ (b .1) in
+    let allowed = and-parts (not (isSome (e .dual)) || is-point (e .kind)) _ (c .0) in
     record {
       each-port = each-port e (a .0);
       no-other = no-other e (a .0);
       section = agree-same _ _ (needed .0);
+      section-low = λ s is. low-sound (e .section) s is (c .1);
       sort = agree-same _ _ (needed .1);
       dual = λ h. point-test (e .kind) (only-where _ _ (allowed .0) h);
       marks = λ h. signal-test (e .kind) (only-where _ _ (allowed .1) h);
@@ -106,8 +116,10 @@ pub fields-from : (e : Element) → HasItsFields e → has-its-fields e ≡ true
 fields-from e f =
     and-from _ _ (and-from _ _ (port-agrees e f 0) (and-from _ _ (port-agrees e f 1) (port-agrees e f 2)))
     (and-from _ _ (and-from _ _ (agree-from _ _ (f .section)) (agree-from _ _ (f .sort)))
+    (and-from _ _
     (and-from _ _ (only-from (isSome (e .dual)) (is-point (e .kind)) (λ h. ap is-point (f .dual h)))
-    (only-from (isSome (e .marks)) (is-signal (e .kind)) (λ h. ap is-signal (f .marks h)))))
+    (only-from (isSome (e .marks)) (is-signal (e .kind)) (λ h. ap is-signal (f .marks h))))
+    (low-from (e .section) (f .section-low))))
 
 -- an entry signal is unmarked exactly if it is not requested at a flank
 abbrev pub EntryUnmarked : Element → Type 0

@@ -34,9 +34,14 @@ are-fields-needed e = agree (isSome (e .section)) (is-sectioned (e .kind)) && ag
 abbrev pub are-fields-allowed : Element → Bool
 are-fields-allowed e = (not (isSome (e .dual)) || is-point (e .kind)) && (not (isSome (e .marks)) || is-signal (e .kind))
 
+-- Sections are numbered 0 to 63. Bytes are read so already; it is asked here too, so that every plan says it of itself.
+abbrev pub is-section-low : Option ℕ → Bool
+is-section-low None = true
+is-section-low (Some s) = ltb s 64
+
 -- An element has the fields of its kind, and no other.
 abbrev pub has-its-fields : Element → Bool
-has-its-fields e = are-joins-its-own e && (are-fields-needed e && are-fields-allowed e)
+has-its-fields e = are-joins-its-own e && (are-fields-needed e && (are-fields-allowed e && is-section-low (e .section)))
 
 -- A join goes to this port of this element.
 abbrev pub leads-to : Option Join → ℕ → ℕ → Bool

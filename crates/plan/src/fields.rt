@@ -1,7 +1,7 @@
 //! The fields of an element against its kind.
 
 ghost use mathlib.Core.Path.{_≡_};
-ghost use Rattle.plan.specs.ElementTests.{are-joins-its-own, are-fields-needed, are-fields-allowed, has-its-fields, is-entry-unmarked};
+ghost use Rattle.plan.specs.ElementTests.{are-joins-its-own, are-fields-needed, are-fields-allowed, is-section-low, has-its-fields, is-entry-unmarked};
 use layout::element::Element;
 use layout::kind::Sort;
 
@@ -31,11 +31,24 @@ fn allowed_fit(element: &Element) -> bool
         & (!element.marks.is_some() | element.kind.is_signal())
 }
 
+/// Whether the section, if there is one, has a number that sections have.
+fn section_fits(section: Option<u8>) -> bool
+    ensures { λ r. ⌜ r ≡ is-section-low section ⌝ }
+{
+    match section {
+        Some(number) => number < 64,
+        None => true,
+    }
+}
+
 /// Whether an element has the fields of its kind.
 pub(crate) fn fields_fit(element: &Element) -> bool
     ensures { λ r. ⌜ r ≡ has-its-fields (now (element .entry)) ⌝ }
 {
-    ports_fit(element) && needed_fit(element) && allowed_fit(element)
+    ports_fit(element)
+        && needed_fit(element)
+        && allowed_fit(element)
+        && section_fits(element.section)
 }
 
 /// Whether an element is no entry signal that is marked as requested at a flank.

@@ -157,6 +157,7 @@ one-start d s i j h k e =
     = some-of (at es (x .element) .section) (s .elements .fields (x .element) known .section ∙ x .sectioned) in (
       (
         lies .0,
+        s .elements .fields (x .element) known .section-low (lies .0) (lies .1),
         (x .element, record { at-place = x .place-one; between = x .in-one; sectioned = x .sectioned }, lies .1),
         (x .element, record { at-place = x .place-two; between = x .in-two; sectioned = x .sectioned }, lies .1),
       ),

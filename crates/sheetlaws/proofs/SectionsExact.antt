@@ -2,6 +2,7 @@
 use mathlib.Core.Path.{_≡_, refl, sym, ap, subst, _∙_}
 use mathlib.Core.Bool.{true}
 use mathlib.Core.List.{List}
+use mathlib.Core.Logic.{inl, inr}
 use Prim.Native.Nat.{ℕ, suc, _-_, _<_}
 use native.Mathlib.Omega.{arith}
 use lib.ListN.{length, getD}
@@ -13,7 +14,7 @@ use Rattle.layout.specs.Kinds.{is-sectioned}
 use Rattle.layout.specs.Ports.{at}
 use Rattle.layout.specs.Sound.{SoundElements}
 use Rattle.layout.specs.Ways.{place}
-use Rattle.layout.specs.Uses.{path-of, overlap-of, UsesSectionInPath, UsesSectionInOverlap}
+use Rattle.layout.specs.Uses.{path-of, overlap-of, Uses, UsesSectionInPath, UsesSectionInOverlap}
 use Rattle.paths.specs.Sound.{Within}
 use Rattle.flank.specs.Used.{inner}
 use Rattle.walks.proofs.Used.{inner-length, inner-place}
@@ -25,7 +26,7 @@ use Rattle.sheets.specs.Sections.{is-on-way, section-use, no-use, sections-of}
 use Rattle.sheets.specs.Sheets.{no-sheet, sheet-of}
 use Rattle.plan.specs.Flanks.{route-of}
 use Rattle.sheetlaws.specs.Routes.{elements-of}
-use Rattle.sheetlaws.specs.Sections.{use-of, Sections-exact}
+use Rattle.sheetlaws.specs.Sections.{use-of, Sections-exact, Sections-in-range}
 use Rattle.sheetlaws.proofs.Reading.{by-rule-at, sheets-in-order}
 use Rattle.sheetlaws.proofs.Places.{on-way-sound, on-way-from}
 
@@ -82,3 +83,21 @@ sections-exact d p i h s l =
       ((λ t. in-path-sound es (p .elements) r s (route .path .within) (sym path ∙ t)), (λ u. path ∙ in-path-from es (p .elements) r s u)),
       ((λ t. in-overlap-sound es (p .elements) r s (overlap-within es r (p .elements) (p .few-elements) route) (sym overlap ∙ t)), (λ u. overlap ∙ in-overlap-from es (p .elements) r s u)),
     )
+
+-- an element that a route uses is one of the plan
+used-known : (es : List Element) (r : Route) → Within es (path-of r) → Within es (overlap-of r) → (e : ℕ) → Uses es r e → e < length es
+used-known es r path overlap e (inl u) =
+    subst (λ (n : ℕ). n < length es) (u .between .is) (path (suc (u .at-place)) (omega (arith, u .between .within)))
+used-known es r path overlap e (inr u) = subst (λ (n : ℕ). n < length es) (u .is) (overlap (u .at-place) (u .within))
+
+pub sections-in-range : Sections-in-range
+sections-in-range d sound i h s u =
+    let es : List Element = elements-of d in
+    let r : Route = route-of d i in
+    let route : SoundRoute es r = sound-route es r (sound .paths i h) (sound .overlaps i h) in
+    let known : (e : ℕ) → Uses es r e → e < length es
+    = used-known es r (route .path .within) (overlap-within es r (sound .elements) (sound .few-elements) route) in
+    elim u [
+      | inl x ↦ sound .elements .fields (x .0) (known (x .0) (inl (x .1))) .section-low s (x .2)
+      | inr x ↦ sound .elements .fields (x .0) (known (x .0) (inr (x .1))) .section-low s (x .2)
+    ]

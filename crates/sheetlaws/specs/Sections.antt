@@ -4,7 +4,7 @@ use mathlib.Core.Bool.{true}
 use Prim.Native.Nat.{ℕ, _<_}
 use lib.ListN.{getD}
 use Rattle.layout.specs.declared.drawing.Drawing.{Drawing}
-use Rattle.layout.specs.Uses.{UsesSectionInPath, UsesSectionInOverlap}
+use Rattle.layout.specs.Uses.{UsesSectionInPath, UsesSectionInOverlap, UsesSection}
 use Rattle.sheets.specs.declared.sheet.SectionUse.{SectionUse}
 use Rattle.sheets.specs.Sections.{no-use}
 use Rattle.plan.specs.Flanks.{route-of}
@@ -22,3 +22,8 @@ Sections-exact =
     (d : Drawing) → SoundPlan d → (i : ℕ) → HasRoute d i → (s : ℕ) → s < 64
     → Exactly (use-of d i s .path ≡ true) (UsesSectionInPath (elements-of d) (route-of d i) s)
     × Exactly (use-of d i s .overlap ≡ true) (UsesSectionInOverlap (elements-of d) (route-of d i) s)
+
+-- The sections that a route uses are numbered 0 to 63.
+abbrev pub Sections-in-range : Type 0
+Sections-in-range =
+    (d : Drawing) → SoundPlan d → (i : ℕ) → HasRoute d i → (s : ℕ) → UsesSection (elements-of d) (route-of d i) s → s < 64

@@ -1,7 +1,7 @@
 -- The theorem that two routes with one start use one same section.
 use mathlib.Core.Path.{_≡_}
 use mathlib.Core.Logic.{_≢_}
-use Prim.Native.Nat.{ℕ}
+use Prim.Native.Nat.{ℕ, _<_}
 use Rattle.layout.specs.declared.drawing.Drawing.{Drawing}
 use Rattle.layout.specs.Uses.{UsesSectionInPath}
 use Rattle.plan.specs.Flanks.{route-of}
@@ -14,5 +14,5 @@ use Rattle.sheetlaws.specs.Ends.{first-element, last-element}
 abbrev pub One-start : Type 0
 One-start =
     (d : Drawing) → SoundPlan d → (i j : ℕ) → HasRoute d i → HasRoute d j → first-element d i ≡ first-element d j
-    → ((s : ℕ) × UsesSectionInPath (elements-of d) (route-of d i) s × UsesSectionInPath (elements-of d) (route-of d j) s)
+    → ((s : ℕ) × (s < 64) × UsesSectionInPath (elements-of d) (route-of d i) s × UsesSectionInPath (elements-of d) (route-of d j) s)
     × (first-element d i ≢ last-element d j) × (first-element d j ≢ last-element d i)

@@ -4,7 +4,7 @@ ghost use mathlib.Core.Path.{_≡_};
 ghost use Rattle.sheets.specs.Sheets.{sheets-of};
 ghost use Rattle.plan.specs.Sound.{SoundPlan};
 ghost use Rattle.sheetlaws.specs.Routes.{Sheets-in-order};
-ghost use Rattle.sheetlaws.specs.Sections.{Sections-exact};
+ghost use Rattle.sheetlaws.specs.Sections.{Sections-exact, Sections-in-range};
 ghost use Rattle.sheetlaws.specs.Elements.{Elements-exact, Known-exact};
 ghost use Rattle.sheetlaws.specs.Ends.{Ends-exact, Showing-exact};
 ghost use Rattle.sheetlaws.specs.Requests.{Sheet-requests-exact};
@@ -19,6 +19,7 @@ pub fn sheets_are_exact(plan: &Plan) -> &Sheets
     ensures sound { λ _. ⌜ SoundPlan (now (plan .entry) .drawing) ⌝ }
     ensures order { λ _. ⌜ Sheets-in-order ⌝ }
     ensures sections { λ _. ⌜ Sections-exact ⌝ }
+    ensures range { λ _. ⌜ Sections-in-range ⌝ }
     ensures elements { λ _. ⌜ Elements-exact ⌝ }
     ensures known { λ _. ⌜ Known-exact ⌝ }
     ensures ends { λ _. ⌜ Ends-exact ⌝ }

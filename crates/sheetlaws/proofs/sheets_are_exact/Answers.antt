@@ -1,6 +1,6 @@
 use Rattle.plan.proofs.PlansExact.{checks-exact}
 use Rattle.sheetlaws.proofs.Reading.{sheets-in-order}
-use Rattle.sheetlaws.proofs.SectionsExact.{sections-exact}
+use Rattle.sheetlaws.proofs.SectionsExact.{sections-exact, sections-in-range}
 use Rattle.sheetlaws.proofs.ElementsExact.{elements-exact, known-exact}
 use Rattle.sheetlaws.proofs.EndsExact.{ends-exact, showing-exact}
 use Rattle.sheetlaws.proofs.RequestsExact.{sheet-requests-exact}
@@ -14,6 +14,7 @@ returns c = record {
   sound = checks-exact (c .args .plan .now .drawing) .0 (c .args .plan .now .sound);
   order = sheets-in-order;
   sections = sections-exact;
+  range = sections-in-range;
   elements = elements-exact;
   known = known-exact;
   ends = ends-exact;
