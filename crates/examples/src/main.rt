@@ -66,76 +66,69 @@ fn show_flanks(rt: &LibcRuntime, what: &str, bytes: &[u8]) -> io::Result<()> {
 }
 
 fn readings(rt: &LibcRuntime) -> io::Result<()> {
+    let k = *stations::K;
     let mut plan = Plan::fresh();
     show(rt, "no bytes", plan.read(&[]))?;
-    show(
-        rt,
-        "the first 55 bytes of K",
-        plan.read(&stations::K[0..55]),
-    )?;
+    show(rt, "the first 55 bytes of K", plan.read(&k[0..55]))?;
     let mut longer = [0; 57];
-    longer[0..56].copy_from_slice(&stations::K);
+    longer[0..56].copy_from_slice(&k);
     show(rt, "K and a byte 00", plan.read(&longer))?;
-    let mut turned = stations::K;
+    let mut turned = k;
     turned[49] = 2;
     show(
         rt,
         "K with the last byte of element 7 as 02",
         plan.read(&turned),
     )?;
-    show(rt, "K", plan.read(&stations::K))
+    show(rt, "K", plan.read(&k))
 }
 
 fn flanks(rt: &LibcRuntime) -> io::Result<()> {
-    show_flanks(rt, "K", &stations::K)?;
-    show_flanks(rt, "K with point 5 turned", &stations::K_TURNED)?;
-    show_flanks(rt, "the same with a shunting route", &stations::K_SHUNTING)?;
-    show_flanks(rt, "a walk ends at a track", &stations::BY_TRACK)?;
-    show_flanks(rt, "a walk comes to a derailer", &stations::BY_DERAILER)?;
+    show_flanks(rt, "K", stations::K)?;
+    show_flanks(rt, "K with point 5 turned", stations::K_TURNED)?;
+    show_flanks(rt, "the same with a shunting route", stations::K_SHUNTING)?;
+    show_flanks(rt, "a walk ends at a track", stations::BY_TRACK)?;
+    show_flanks(rt, "a walk comes to a derailer", stations::BY_DERAILER)?;
     show_flanks(
         rt,
         "a marked signal met at its front",
-        &stations::BY_SIGNAL_FRONT,
+        stations::BY_SIGNAL_FRONT,
     )?;
     show_flanks(
         rt,
         "a marked signal met at its rear",
-        &stations::BY_SIGNAL_REAR,
+        stations::BY_SIGNAL_REAR,
     )?;
     show_flanks(
         rt,
         "a dual point that prefers plus, met at its minus leg",
-        &stations::DUAL_PLUS,
+        stations::DUAL_PLUS,
     )?;
     show_flanks(
         rt,
         "a dual point that prefers minus, met at its minus leg",
-        &stations::DUAL_MINUS,
+        stations::DUAL_MINUS,
     )?;
-    show_flanks(
-        rt,
-        "three points that are not able",
-        &stations::THREE_POINTS,
-    )?;
+    show_flanks(rt, "three points that are not able", stations::THREE_POINTS)?;
     show_flanks(
         rt,
         "a walk that comes back to the overlap of its route",
-        &stations::BACK_TO_ROUTE,
+        stations::BACK_TO_ROUTE,
     )?;
     show_flanks(
         rt,
         "a point beyond whose toe, behind a signal, the route comes next",
-        &stations::BACK_BEYOND_TOE,
+        stations::BACK_BEYOND_TOE,
     )?;
     show_flanks(
         rt,
         "a point of an overlap, whose walks reach one point only",
-        &stations::IN_OVERLAP,
+        stations::IN_OVERLAP,
     )?;
     show_flanks(
         rt,
         "a chain of signals, and then a derailer",
-        &stations::CHAIN_OF_SIGNALS,
+        stations::CHAIN_OF_SIGNALS,
     )
 }
 

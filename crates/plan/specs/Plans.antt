@@ -35,10 +35,6 @@ abbrev pub drawing-after : Result Drawing Fault → Drawing → Drawing
 drawing-after (Ok d) old = d
 drawing-after (Err f) old = old
 
-abbrev pub fault-of : Result Drawing Fault → Option Fault
-fault-of (Ok d) = None
-fault-of (Err f) = Some f
-
 -- A plan end joined to another one.
 abbrev pub end-to : ℕ → Element
 end-to n = record { kind = kind.PlanEnd; joins = Some (record { element = n; port = 0 }) ∷ None ∷ None ∷ []; section = None; dual = None; sort = None; marks = None }

@@ -4,7 +4,7 @@ ghost use mathlib.Core.Path.{_≡_};
 ghost use mathlib.Core.Bool.{true};
 ghost use Rattle.std.specs.Vec.{made};
 ghost use Rattle.planbytes.specs.Bytes.{fault-in};
-ghost use Rattle.plan.specs.Plans.{is-sound, end-to, fresh-drawing, reading, drawing-after, fault-of};
+ghost use Rattle.plan.specs.Plans.{is-sound, end-to, fresh-drawing, reading, drawing-after};
 ghost use Rattle.sheets.specs.Sheets.{sheets-of};
 ghost use Rattle.plan.specs.Flanks.{flanks-answer, flanks-requests, flanks-branches};
 ghost use Rattle.plan.specs.Sound.{SoundPlan, Checks-exact};
@@ -97,7 +97,7 @@ impl Plan {
 
     /// Takes up what the bytes draw; on a fault the plan keeps its content.
     pub fn read(&mut self, bytes: &[u8]) -> Result<(), Fault>
-        ensures answer { λ r. ⌜ fault-in r ≡ fault-of (reading (now (bytes .entry))) ⌝ }
+        ensures answer { λ r. ⌜ fault-in r ≡ fault-in (reading (now (bytes .entry))) ⌝ }
         ensures drawing { λ _. ⌜ now (self .exit) .drawing ≡ drawing-after (reading (now (bytes .entry))) (now (self .entry) .drawing) ⌝ }
     {
         let drawing = checked_drawing(bytes)?;
