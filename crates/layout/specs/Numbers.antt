@@ -1,6 +1,6 @@
 -- The numbers of kinds, preferences, sorts, marks and classes in a plan file, and of positions.
 use mathlib.Core.Bool.{Bool, true, false, cond}
-use Prim.Native.Nat.{ℕ, _+_, _/_, _%_}
+use Prim.Native.Nat.{ℕ, _/_, _%_}
 use lib.Dec.{eqb}
 use Rattle.layout.specs.declared.kind.Kind.{Kind}
 use Rattle.layout.specs.declared.kind.Kind.the-variants as kind
@@ -56,9 +56,6 @@ sort-of n =
     (cond (eqb n (sort-number sort.Train)) sort.Train sort.Entry)
 
 -- Marks are a sum: 1 for a signal requested at a flank, 2 for one whose lamp is spared.
-abbrev pub marks-number : Marks → ℕ
-marks-number m = cond (m .requested) 1 0 + cond (m .«lamp_spared») 2 0
-
 abbrev pub marks-of : ℕ → Marks
 marks-of n = record { requested = eqb (n % 2) 1; «lamp_spared» = eqb (n / 2 % 2) 1 }
 
