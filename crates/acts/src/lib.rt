@@ -1,4 +1,5 @@
 //! The acts on a station, over its holds and route states and any field.
+#![tactic(auto)]
 
 pub mod act;
 mod events;

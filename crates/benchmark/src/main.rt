@@ -1,4 +1,5 @@
 //! Works a full station, as many rounds as each line of standard input says, and prints what came of it.
+#![tactic(auto)]
 
 mod rounds;
 mod stations;

@@ -1,3 +1,4 @@
 //! A byte as eight bits, numbered from 0, the lowest.
+#![tactic(auto)]
 
 pub mod byte;

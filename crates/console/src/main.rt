@@ -1,4 +1,5 @@
 //! The console: commands on standard input, one on a line, and what each did in print.
+#![tactic(auto)]
 
 mod acting;
 mod asking;

@@ -1,4 +1,5 @@
 //! A field kept as a picture of its contacts: 104 bytes.
+#![tactic(auto)]
 
 mod byte;
 pub mod operations;

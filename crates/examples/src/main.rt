@@ -1,4 +1,5 @@
 //! Runs the worked examples, and prints each with its outcome.
+#![tactic(auto)]
 
 mod fields;
 mod runs;

@@ -1,4 +1,5 @@
 //! The search out of the flanks of a route: what it requests to shield them, and the branches that stay open.
+#![tactic(auto)]
 
 pub mod answers;
 pub mod flanks;

@@ -1,4 +1,5 @@
 //! What a station keeps without its field: the hold of each element and the state of each route.
+#![tactic(auto)]
 
 pub mod aspect;
 mod aspects;

@@ -1,4 +1,5 @@
 //! A drawn station: elements and how their ports are joined, and the routes over them.
+#![tactic(auto)]
 
 pub mod drawing;
 pub mod element;

@@ -1,4 +1,5 @@
 //! Sound paths and overlaps of routes.
+#![tactic(auto)]
 
 pub mod overlap;
 pub mod path;

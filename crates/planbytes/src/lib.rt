@@ -1,4 +1,5 @@
 //! The bytes of a plan file, read into a drawing.
+#![tactic(auto)]
 
 mod reader;
 pub mod reading;

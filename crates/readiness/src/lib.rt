@@ -1,4 +1,5 @@
 //! When a route is ready, and what settles after every accepted act.
+#![tactic(auto)]
 
 mod readiness;
 pub mod settling;

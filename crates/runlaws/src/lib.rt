@@ -1,4 +1,5 @@
 //! The law of every run of a station.
+#![tactic(auto)]
 
 ghost use Rattle.runlaws.specs.Beside.{NoWantRefuses, SetExactly, AdmitsOverLocked, RefusedChangesNothing, OneStandingStart};
 ghost use Rattle.runlaws.specs.Ready.{ReadyExactly, SettledAfter};

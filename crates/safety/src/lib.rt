@@ -1,4 +1,5 @@
 //! The law over runs, in the words of the subject, for every checked plan.
+#![tactic(auto)]
 
 ghost use Rattle.layout.specs.declared.drawing.Drawing.{Drawing};
 ghost use Rattle.std.specs.Prelude.{◌≡◌, List};

@@ -1,4 +1,5 @@
 //! The theorems that the sheets of a plan tell exactly what they are for.
+#![tactic(auto)]
 
 ghost use Rattle.std.specs.Prelude.{◌≡◌};
 ghost use Rattle.sheets.specs.Sheets.{sheets_of};

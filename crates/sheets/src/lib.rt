@@ -1,4 +1,5 @@
 //! The sheets of a plan: all that the acts of a station need to know of each element and route, worked out once.
+#![tactic(auto)]
 
 mod lists;
 pub mod making;

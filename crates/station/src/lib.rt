@@ -1,4 +1,5 @@
 //! A station at work on a checked plan and any field.
+#![tactic(auto)]
 
 pub mod closed;
 pub mod journal;

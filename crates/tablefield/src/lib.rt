@@ -1,4 +1,5 @@
 //! A field kept as a table of records.
+#![tactic(auto)]
 
 pub mod operations;
 pub mod table;

@@ -1,3 +1,4 @@
 //! Reading and writing tables at any place, also past their end.
+#![tactic(auto)]
 
 pub mod table;

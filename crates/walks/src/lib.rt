@@ -1,4 +1,5 @@
 //! Walks out of the flanks of a route in the words of the subject, and the theorems that the search finds exactly what they come to.
+#![tactic(auto)]
 
 ghost use Rattle.walks.specs.Exactly.{ChainsEnd, RequestsExact, BranchesExact};
 
