@@ -9,9 +9,9 @@ loop-i-init c = search (rules, every_none)
 pub loop-i-preserved : goal.loop-i-preserved
 loop-i-preserved c = search (rules, every_more)
 
-pub returns-then-not-is-signal : goal.returns-then-not-is-signal
+pub returns-then-not-is_signal : goal.returns-then-not-is_signal
 unfolding are_signals_between
-returns-then-not-is-signal c = search (rules, every_more)
+returns-then-not-is_signal c = search (rules, every_more)
 
 pub returns : goal.returns
 unfolding are_signals_between

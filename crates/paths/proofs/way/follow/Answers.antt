@@ -5,8 +5,8 @@ use Rattle.paths.proofs.way.follow.Goals as goal
 pub loop-i-preserved : goal.loop-i-preserved
 loop-i-preserved c = search (rules, follows_more)
 
-pub returns-in-err-entered : goal.returns-in-err-entered
-returns-in-err-entered c = search (rules, follows_more)
+pub returns-in_err-entered : goal.returns-in_err-entered
+returns-in_err-entered c = search (rules, follows_more)
 
 pub returns : goal.returns
 returns c = search (rules, follows_all)
