@@ -8,8 +8,8 @@ pub loop-last-init : goal.loop-last-init
 unfolding branches_in
 loop-last-init c = search rules
 
-pub overflow-add-place : goal.overflow-add-place
-overflow-add-place c = search (rules, branches_few)
+pub overflow_add-place : goal.overflow_add-place
+overflow_add-place c = search (rules, branches_few)
 
 pub loop-last-preserved : goal.loop-last-preserved
 loop-last-preserved c =

@@ -2,8 +2,8 @@ use Rattle.std.proofs.Common.{rules}
 use Rattle.flank.proofs.Turns.{along_more, along_rests, along_none}
 use Rattle.flank.proofs.signals.pass_signals.Goals as goal
 
-pub returns-then-not-is-passed : goal.returns-then-not-is-passed
-returns-then-not-is-passed c = search (rules, along_rests)
+pub returns-then-not-is_passed : goal.returns-then-not-is_passed
+returns-then-not-is_passed c = search (rules, along_rests)
 
 pub loop-preserved : goal.loop-preserved
 loop-preserved c = search (rules, along_more)
