@@ -7,6 +7,6 @@ pub returns : goal.returns
 unfolding element_step
 returns c = search (rules, element_in_order)
 
-pub returns-in-err-part : goal.returns-in-err-part
+pub returns-in_err-part : goal.returns-in_err-part
 unfolding element_step
-returns-in-err-part c = search (rules, element_in_order)
+returns-in_err-part c = search (rules, element_in_order)

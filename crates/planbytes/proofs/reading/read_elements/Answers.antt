@@ -8,5 +8,5 @@ loop-i-init c = search (rules, times_none)
 pub loop-i-preserved : goal.loop-i-preserved
 loop-i-preserved c = search (rules, times_more)
 
-pub returns-in-err-read-element : goal.returns-in-err-read-element
-returns-in-err-read-element c = search (rules, times_more)
+pub returns-in_err-read_element : goal.returns-in_err-read_element
+returns-in_err-read_element c = search (rules, times_more)

@@ -8,5 +8,5 @@ loop-i-init c = search (rules, times_none)
 pub loop-i-preserved : goal.loop-i-preserved
 loop-i-preserved c = search (rules, times_more)
 
-pub returns-in-err-read-route : goal.returns-in-err-read-route
-returns-in-err-read-route c = search (rules, times_more)
+pub returns-in_err-read_route : goal.returns-in_err-read_route
+returns-in_err-read_route c = search (rules, times_more)

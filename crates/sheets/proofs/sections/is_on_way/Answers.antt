@@ -9,9 +9,9 @@ loop-i-init c = search (rules, every_none)
 pub loop-i-preserved : goal.loop-i-preserved
 loop-i-preserved c = search (rules, every_more)
 
-pub returns-then-lies-in : goal.returns-then-lies-in
+pub returns-then-lies_in : goal.returns-then-lies_in
 unfolding is_on_way
-returns-then-lies-in c = search (rules, every_more)
+returns-then-lies_in c = search (rules, every_more)
 
 pub returns : goal.returns
 unfolding is_on_way

@@ -6,6 +6,6 @@ pub returns : goal.returns
 unfolding element_record_at
 returns c = search rules
 
-pub returns-in-err-map : goal.returns-in-err-map
+pub returns-in_err-map : goal.returns-in_err-map
 unfolding element_record_at
-returns-in-err-map c = search rules
+returns-in_err-map c = search rules
