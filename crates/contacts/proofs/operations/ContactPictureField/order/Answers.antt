@@ -10,7 +10,7 @@ pub returns-then-element-lt96 : goal.returns-then-element-lt96
 returns-then-element-lt96 c =
     let bytes = c.args.self.now.bytes in
     record {
-      meaning = element_written bytes c.args.element c.ordered-byte.result (λ d. device_ordered d c.args.position) c.args.self.now.sized c.if-element-lt96.true
-          (ap device_in c.ordered-byte.ensures ∙ order_taken (get_or bytes c.args.element 0) c.args.position (search rules));
+      meaning = element_written bytes c.args.element c.ordered_byte.result (λ d. device_ordered d c.args.position) c.args.self.now.sized c.if-element-lt96.true
+          (ap device_in c.ordered_byte.ensures ∙ order_taken (get_or bytes c.args.element 0) c.args.position (search rules));
       bytes = search rules;
     }

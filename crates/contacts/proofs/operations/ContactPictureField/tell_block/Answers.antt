@@ -10,7 +10,7 @@ pub returns-then-element-lt96 : goal.returns-then-element-lt96
 returns-then-element-lt96 c =
     let bytes = c.args.self.now.bytes in
     record {
-      meaning = element_written bytes c.args.element c.with-block.result (λ d. device_blocking d c.args.blocked) c.args.self.now.sized c.if-element-lt96.true
-          (ap device_in c.with-block.ensures ∙ block_told (get_or bytes c.args.element 0) c.args.blocked (search rules));
+      meaning = element_written bytes c.args.element c.with_block.result (λ d. device_blocking d c.args.blocked) c.args.self.now.sized c.if-element-lt96.true
+          (ap device_in c.with_block.ensures ∙ block_told (get_or bytes c.args.element 0) c.args.blocked (search rules));
       bytes = search rules;
     }

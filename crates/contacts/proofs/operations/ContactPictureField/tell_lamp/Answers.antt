@@ -10,7 +10,7 @@ pub returns-then-element-lt96 : goal.returns-then-element-lt96
 returns-then-element-lt96 c =
     let bytes = c.args.self.now.bytes in
     record {
-      meaning = element_written bytes c.args.element c.with-lamp.result (λ d. device_burning d c.args.burning) c.args.self.now.sized c.if-element-lt96.true
-          (ap device_in c.with-lamp.ensures ∙ lamp_told (get_or bytes c.args.element 0) c.args.burning (search rules));
+      meaning = element_written bytes c.args.element c.with_lamp.result (λ d. device_burning d c.args.burning) c.args.self.now.sized c.if-element-lt96.true
+          (ap device_in c.with_lamp.ensures ∙ lamp_told (get_or bytes c.args.element 0) c.args.burning (search rules));
       bytes = search rules;
     }

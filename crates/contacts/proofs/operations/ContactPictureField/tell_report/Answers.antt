@@ -10,7 +10,7 @@ pub returns-then-element-lt96 : goal.returns-then-element-lt96
 returns-then-element-lt96 c =
     let bytes = c.args.self.now.bytes in
     record {
-      meaning = element_written bytes c.args.element c.with-report.result (λ d. device_reporting d c.args.report) c.args.self.now.sized c.if-element-lt96.true
-          (ap device_in c.with-report.ensures ∙ report_told (get_or bytes c.args.element 0) c.args.report (search rules));
+      meaning = element_written bytes c.args.element c.with_report.result (λ d. device_reporting d c.args.report) c.args.self.now.sized c.if-element-lt96.true
+          (ap device_in c.with_report.ensures ∙ report_told (get_or bytes c.args.element 0) c.args.report (search rules));
       bytes = search rules;
     }
