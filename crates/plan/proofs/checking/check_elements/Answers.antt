@@ -13,6 +13,6 @@ pub returns : goal.returns
 unfolding elements_fault
 returns c = search (rules, first_all)
 
-pub returns-in-err-check-element : goal.returns-in-err-check-element
+pub returns-in_err-check_element : goal.returns-in_err-check_element
 unfolding elements_fault
-returns-in-err-check-element c = search (rules, first_more)
+returns-in_err-check_element c = search (rules, first_more)

@@ -13,6 +13,6 @@ pub returns : goal.returns
 unfolding routes_fault
 returns c = search (rules, first_all)
 
-pub returns-in-err-check-route : goal.returns-in-err-check-route
+pub returns-in_err-check_route : goal.returns-in_err-check_route
 unfolding routes_fault
-returns-in-err-check-route c = search (rules, first_more)
+returns-in_err-check_route c = search (rules, first_more)

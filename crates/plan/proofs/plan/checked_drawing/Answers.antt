@@ -2,13 +2,13 @@ use Rattle.std.proofs.Common.{rules}
 use Rattle.plan.specs.Plans.{reading, is_sound}
 use Rattle.plan.proofs.plan.checked_drawing.Goals as goal
 
-pub returns-in-err-drawing : goal.returns-in-err-drawing
+pub returns-in_err-drawing : goal.returns-in_err-drawing
 unfolding reading is_sound
-returns-in-err-drawing c = search rules
+returns-in_err-drawing c = search rules
 
-pub returns-in-err-check-drawing : goal.returns-in-err-check-drawing
+pub returns-in_err-check_drawing : goal.returns-in_err-check_drawing
 unfolding reading is_sound
-returns-in-err-check-drawing c = search rules
+returns-in_err-check_drawing c = search rules
 
 pub returns : goal.returns
 unfolding reading is_sound

@@ -9,9 +9,9 @@ loop-i-init c = search (rules, every_none)
 pub loop-i-preserved : goal.loop-i-preserved
 loop-i-preserved c = search (rules, every_more)
 
-pub returns-then-is-torn : goal.returns-then-is-torn
+pub returns-then-is_torn : goal.returns-then-is_torn
 unfolding asks_both_ways
-returns-then-is-torn c = search (rules, every_more)
+returns-then-is_torn c = search (rules, every_more)
 
 pub returns : goal.returns
 unfolding asks_both_ways

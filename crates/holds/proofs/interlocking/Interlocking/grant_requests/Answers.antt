@@ -6,11 +6,11 @@ use Rattle.holds.proofs.interlocking.Interlocking.grant_requests.Goals as goal
 pub loop-element-preserved : goal.loop-element-preserved
 loop-element-preserved c =
     let more =
-    at_drop_more (fold (grant_request c.args.sheet.now c.args.route) c.loop-element.self) c.as-slice-wanted.result.now c.loop-element.element-index 0 c.loop-element-test.true in
+    at_drop_more (fold (grant_request c.args.sheet.now c.args.route) c.loop-element.self) c.as_slice-wanted.result.now c.loop-element.element-index 0 c.loop-element-test.true in
     search rules
 
 pub returns : goal.returns
 returns c =
     let all =
-    at_drop_all (fold (grant_request c.args.sheet.now c.args.route) c.loop-element.self) c.as-slice-wanted.result.now c.loop-element.element-index c.loop-element-test.false in
+    at_drop_all (fold (grant_request c.args.sheet.now c.args.route) c.loop-element.self) c.as_slice-wanted.result.now c.loop-element.element-index c.loop-element-test.false in
     search rules

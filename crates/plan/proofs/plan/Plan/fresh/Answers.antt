@@ -8,5 +8,5 @@ fresh_is_sound : is_sound fresh_drawing ≡ true
 unfolding is_sound blanks elements_fault routes_fault
 fresh_is_sound = refl
 
-pub invariant-of-result : goal.invariant-of-result
-invariant-of-result c = (ap is_sound c.two-ends-drawing.ensures ∙ fresh_is_sound, (c.sheets-of.ensures, tt))
+pub invariant_of-result : goal.invariant_of-result
+invariant_of-result c = (ap is_sound c.two-ends-drawing.ensures ∙ fresh_is_sound, (c.sheets-of.ensures, tt))
