@@ -4,8 +4,8 @@ use Rattle.sheets.specs.Lists.{all_of}
 use Rattle.readiness.specs.Readiness.{is_free}
 use Rattle.readiness.proofs.readiness.are_sections_free.Goals as goal
 
-pub returns-then-is-occupied : goal.returns-then-is-occupied
-returns-then-is-occupied g c =
+pub returns-then-is_occupied : goal.returns-then-is_occupied
+returns-then-is_occupied g c =
     let more = at_drop_more (all_of (is_free (g.F.Field.meaning c.args.field.now))) c.as-slice-used.result.now c.loop-section.section-index 0 c.loop-section-test.true in
     search rules
 

@@ -11,8 +11,8 @@ loop-pass-preserved g c =
     let more = drops_until_more c.args.sheets.now (g.F.Field.meaning c.args.field.now) c.loop-pass.interlocking (route_count c.args.sheets.now) c.loop-pass.pass in
     search rules
 
-pub returns-then-all-keep : goal.returns-then-all-keep
-returns-then-all-keep g c =
+pub returns-then-all_keep : goal.returns-then-all_keep
+returns-then-all_keep g c =
     let stop = drops_until_stop c.args.sheets.now (g.F.Field.meaning c.args.field.now) c.loop-pass.interlocking (route_count c.args.sheets.now - c.loop-pass.pass) in
     search rules
 

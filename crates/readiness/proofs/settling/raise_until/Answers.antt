@@ -11,8 +11,8 @@ loop-pass-preserved g c =
     let more = raises_until_more c.args.sheets.now (g.F.Field.meaning c.args.field.now) c.loop-pass.interlocking (route_count c.args.sheets.now) c.loop-pass.pass in
     search rules
 
-pub returns-then-all-rest : goal.returns-then-all-rest
-returns-then-all-rest g c =
+pub returns-then-all_rest : goal.returns-then-all_rest
+returns-then-all_rest g c =
     let stop = raises_until_stop c.args.sheets.now (g.F.Field.meaning c.args.field.now) c.loop-pass.interlocking (route_count c.args.sheets.now - c.loop-pass.pass) in
     search rules
 

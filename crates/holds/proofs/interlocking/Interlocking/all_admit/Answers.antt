@@ -13,5 +13,5 @@ loop-other-preserved c = search (rules, every_more)
 pub returns : goal.returns
 returns c = search (rules, every_all)
 
-pub returns-then-not-are-apart : goal.returns-then-not-are-apart
-returns-then-not-are-apart c = search (rules, every_more)
+pub returns-then-not-are_apart : goal.returns-then-not-are_apart
+returns-then-not-are_apart c = search (rules, every_more)

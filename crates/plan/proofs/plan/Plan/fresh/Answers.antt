@@ -9,4 +9,4 @@ unfolding is_sound blanks elements_fault routes_fault
 fresh_is_sound = refl
 
 pub invariant_of-result : goal.invariant_of-result
-invariant_of-result c = (ap is_sound c.two-ends-drawing.ensures ∙ fresh_is_sound, (c.sheets-of.ensures, tt))
+invariant_of-result c = record { sound = ap is_sound c.two_ends-drawing.ensures ∙ fresh_is_sound; worked = c.sheets_of.ensures }
