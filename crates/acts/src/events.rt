@@ -47,7 +47,7 @@ pub(crate) fn may_tell(sheets: &Sheets, event: Event) -> Result<(), Refusal>
 
 /// Tells the field of an event.
 pub(crate) fn tell<F: Field>(field: &mut F, event: Event)
-    ensures { meaning field.new ≡ told (meaning field.old) event }
+    ensures { F.meaning field.new ≡ told (F.meaning field.old) event }
 {
     match event {
         Event::Report { element, value } => field.tell_report(element, report_with(value)),

@@ -9,7 +9,7 @@ use sheets::sheet::Sheets;
 
 /// Whether the section of an element, if it has one, is free.
 fn is_section_free<F: Field>(field: &F, section: Option<u8>) -> bool
-    ensures { result ≡ section_free (meaning field.now) section }
+    ensures { result ≡ section_free (F.meaning field.now) section }
 {
     match section {
         Some(section) => !field.is_occupied(section),
@@ -25,7 +25,7 @@ fn is_due<F: Field>(
     route: usize,
     element: u8,
 ) -> bool
-    ensures { result ≡ due sheets.now interlocking.now route (meaning field.now) element }
+    ensures { result ≡ due sheets.now interlocking.now route (F.meaning field.now) element }
 {
     let sheet = sheets.element(element);
     sheet.moves()
@@ -42,7 +42,7 @@ fn send_one<F: Field>(
     route: usize,
     element: u8,
 )
-    ensures { meaning field.new ≡ sent_one sheets.now interlocking.now route (meaning field.old) element }
+    ensures { F.meaning field.new ≡ sent_one sheets.now interlocking.now route (F.meaning field.old) element }
 {
     if is_due(sheets, interlocking, field, route, element) {
         field.order(element, interlocking.position(element));
@@ -56,7 +56,7 @@ pub(crate) fn send_orders<F: Field>(
     field: &mut F,
     route: usize,
 )
-    ensures { meaning field.new ≡ sent sheets.now interlocking.now route (meaning field.old) 96 }
+    ensures { F.meaning field.new ≡ sent sheets.now interlocking.now route (F.meaning field.old) 96 }
 {
     for element in 0..96u8 {
         send_one(sheets, interlocking, field, route, element);

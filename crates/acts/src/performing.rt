@@ -23,8 +23,8 @@ fn set<F: Field>(
     field: &mut F,
     route: u8,
 ) -> Result<(), Refusal>
-    ensures answer { refusal_in result ≡ answer sheets.now (situation interlocking.old (meaning field.old)) (Set route) }
-    ensures situation { situation interlocking.new (meaning field.new) ≡ performed sheets.now (situation interlocking.old (meaning field.old)) (Set route) }
+    ensures answer { refusal_in result ≡ answer sheets.now (situation interlocking.old (F.meaning field.old)) (Set route) }
+    ensures situation { situation interlocking.new (F.meaning field.new) ≡ performed sheets.now (situation interlocking.old (F.meaning field.old)) (Set route) }
 {
     let route = route as usize;
     let Some(sheet) = sheets.route(route) else {
@@ -43,8 +43,8 @@ fn clear<F: Field>(
     field: &mut F,
     route: u8,
 ) -> Result<(), Refusal>
-    ensures answer { refusal_in result ≡ answer sheets.now (situation interlocking.old (meaning field.old)) (Clear route) }
-    ensures situation { situation interlocking.new (meaning field.new) ≡ performed sheets.now (situation interlocking.old (meaning field.old)) (Clear route) }
+    ensures answer { refusal_in result ≡ answer sheets.now (situation interlocking.old (F.meaning field.old)) (Clear route) }
+    ensures situation { situation interlocking.new (F.meaning field.new) ≡ performed sheets.now (situation interlocking.old (F.meaning field.old)) (Clear route) }
 {
     let route = route as usize;
     let Some(sheet) = sheets.route(route) else {
@@ -63,8 +63,8 @@ fn release<F: Field>(
     field: &F,
     route: u8,
 ) -> Result<(), Refusal>
-    ensures answer { refusal_in result ≡ answer sheets.now (situation interlocking.old (meaning field.now)) (Release route) }
-    ensures situation { situation interlocking.new (meaning field.now) ≡ performed sheets.now (situation interlocking.old (meaning field.now)) (Release route) }
+    ensures answer { refusal_in result ≡ answer sheets.now (situation interlocking.old (F.meaning field.now)) (Release route) }
+    ensures situation { situation interlocking.new (F.meaning field.now) ≡ performed sheets.now (situation interlocking.old (F.meaning field.now)) (Release route) }
 {
     let route = route as usize;
     let Some(sheet) = sheets.route(route) else {
@@ -82,8 +82,8 @@ fn take_event<F: Field>(
     field: &mut F,
     event: Event,
 ) -> Result<(), Refusal>
-    ensures answer { refusal_in result ≡ answer sheets.now (situation interlocking.old (meaning field.old)) (Tell event) }
-    ensures situation { situation interlocking.new (meaning field.new) ≡ performed sheets.now (situation interlocking.old (meaning field.old)) (Tell event) }
+    ensures answer { refusal_in result ≡ answer sheets.now (situation interlocking.old (F.meaning field.old)) (Tell event) }
+    ensures situation { situation interlocking.new (F.meaning field.new) ≡ performed sheets.now (situation interlocking.old (F.meaning field.old)) (Tell event) }
 {
     may_tell(sheets, event)?;
     tell(field, event);
@@ -98,8 +98,8 @@ pub fn perform<F: Field>(
     field: &mut F,
     act: Act,
 ) -> Result<(), Refusal>
-    ensures answer { refusal_in result ≡ answer sheets.now (situation interlocking.old (meaning field.old)) act }
-    ensures situation { situation interlocking.new (meaning field.new) ≡ performed sheets.now (situation interlocking.old (meaning field.old)) act }
+    ensures answer { refusal_in result ≡ answer sheets.now (situation interlocking.old (F.meaning field.old)) act }
+    ensures situation { situation interlocking.new (F.meaning field.new) ≡ performed sheets.now (situation interlocking.old (F.meaning field.old)) act }
 {
     match act {
         Act::Set { route } => set(sheets, interlocking, field, route),

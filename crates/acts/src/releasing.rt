@@ -11,14 +11,14 @@ use sheets::sheet::RouteSheet;
 
 /// Whether a section is free, or the path of the route does not use it.
 fn is_path_free_at<F: Field>(sheet: &RouteSheet, field: &F, section: u8) -> bool
-    ensures { result ≡ path_free_at sheet.now (meaning field.now) section }
+    ensures { result ≡ path_free_at sheet.now (F.meaning field.now) section }
 {
     !(sheet.use_of(section).path && field.is_occupied(section))
 }
 
 /// Whether every section that the path of a route uses is free.
 fn is_path_free<F: Field>(sheet: &RouteSheet, field: &F) -> bool
-    ensures { result ≡ path_free sheet.now (meaning field.now) }
+    ensures { result ≡ path_free sheet.now (F.meaning field.now) }
 {
     let used = sheet.used.as_slice();
     for section in used {
@@ -36,7 +36,7 @@ pub(crate) fn may_release<F: Field>(
     field: &F,
     route: usize,
 ) -> Result<(), Refusal>
-    ensures { refusal_in result ≡ release_refusal sheet.now route interlocking.now (meaning field.now) }
+    ensures { refusal_in result ≡ release_refusal sheet.now route interlocking.now (F.meaning field.now) }
 {
     if !interlocking.state(route).stands() {
         Err(Refusal::NotStanding)

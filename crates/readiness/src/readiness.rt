@@ -20,7 +20,7 @@ fn is_need_met<F: Field>(
     element: u8,
     need: Option<Position>,
 ) -> bool
-    ensures { result ≡ need_met sheet.kind interlocking.now (meaning field.now) route element need }
+    ensures { result ≡ need_met sheet.kind interlocking.now (F.meaning field.now) route element need }
 {
     match need {
         Some(position) => {
@@ -34,7 +34,7 @@ fn is_need_met<F: Field>(
 
 /// Whether a point or derailer is reported in its position, or a signal has its stop lamp burning.
 fn is_shielding<F: Field>(sheet: ElementSheet, field: &F, element: u8, position: Position) -> bool
-    ensures { result ≡ shields sheet.kind (meaning field.now) element position }
+    ensures { result ≡ shields sheet.kind (F.meaning field.now) element position }
 {
     if sheet.moves() {
         field.report(element) == Some(position)
@@ -52,7 +52,7 @@ fn is_request_met<F: Field>(
     element: u8,
     request: Option<Position>,
 ) -> bool
-    ensures { result ≡ request_met sheet.kind interlocking.now (meaning field.now) route element request }
+    ensures { result ≡ request_met sheet.kind interlocking.now (F.meaning field.now) route element request }
 {
     match request {
         Some(position) => {
@@ -72,7 +72,7 @@ fn is_want_met<F: Field>(
     route: usize,
     element: u8,
 ) -> bool
-    ensures { result ≡ want_met sheets.now sheet.now interlocking.now (meaning field.now) route element }
+    ensures { result ≡ want_met sheets.now sheet.now interlocking.now (F.meaning field.now) route element }
 {
     let want = sheet.want(element);
     let kind = sheets.element(element);
@@ -87,7 +87,7 @@ fn are_wants_met<F: Field>(
     field: &F,
     route: usize,
 ) -> bool
-    ensures { result ≡ all_of (want_met sheets.now sheet.now interlocking.now (meaning field.now) route) (wanted_by sheet.now) }
+    ensures { result ≡ all_of (want_met sheets.now sheet.now interlocking.now (F.meaning field.now) route) (wanted_by sheet.now) }
 {
     let wanted = sheet.wanted.as_slice();
     for element in wanted {
@@ -100,7 +100,7 @@ fn are_wants_met<F: Field>(
 
 /// Whether every section that a route uses is free.
 fn are_sections_free<F: Field>(sheet: &RouteSheet, field: &F) -> bool
-    ensures { result ≡ all_of (is_free (meaning field.now)) (used_by sheet.now) }
+    ensures { result ≡ all_of (is_free (F.meaning field.now)) (used_by sheet.now) }
 {
     let used = sheet.used.as_slice();
     for section in used {
@@ -118,7 +118,7 @@ fn is_lamp_proved<F: Field>(
     field: &F,
     end_lamp: Option<u8>,
 ) -> bool
-    ensures { result ≡ lamp_proved sheets.now interlocking.now (meaning field.now) end_lamp }
+    ensures { result ≡ lamp_proved sheets.now interlocking.now (F.meaning field.now) end_lamp }
 {
     match end_lamp {
         Some(signal) => field.is_burning(signal) || interlocking.is_permissive(sheets, signal),
@@ -134,7 +134,7 @@ pub(crate) fn is_ready<F: Field>(
     route: usize,
 ) -> bool
     requires { route < route_count sheets.now }
-    ensures { result ≡ ready sheets.now interlocking.now (meaning field.now) route }
+    ensures { result ≡ ready sheets.now interlocking.now (F.meaning field.now) route }
 {
     let sheet = &sheets.routes.as_slice()[route];
     are_wants_met(sheets, sheet, interlocking, field, route)

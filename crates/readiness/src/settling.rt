@@ -12,7 +12,7 @@ use sheets::sheet::Sheets;
 /// A clear route that is not ready becomes dropped.
 fn drop_one<F: Field>(sheets: &Sheets, interlocking: &mut Interlocking, field: &F, route: usize)
     requires { route < route_count sheets.now }
-    ensures { interlocking.new ≡ drop_one sheets.now (meaning field.now) interlocking.old route }
+    ensures { interlocking.new ≡ drop_one sheets.now (F.meaning field.now) interlocking.old route }
 {
     let state = interlocking.state(route);
     if state.is_clear() {
@@ -23,7 +23,7 @@ fn drop_one<F: Field>(sheets: &Sheets, interlocking: &mut Interlocking, field: &
 
 /// A pass over all routes, in their order.
 fn drop_pass<F: Field>(sheets: &Sheets, interlocking: &mut Interlocking, field: &F)
-    ensures { interlocking.new ≡ drop_pass sheets.now (meaning field.now) interlocking.old (route_count sheets.now) }
+    ensures { interlocking.new ≡ drop_pass sheets.now (F.meaning field.now) interlocking.old (route_count sheets.now) }
 {
     for route in 0..sheets.routes.as_slice().len() {
         drop_one(sheets, interlocking, field, route);
@@ -33,13 +33,13 @@ fn drop_pass<F: Field>(sheets: &Sheets, interlocking: &mut Interlocking, field: 
 /// Whether a route, if clear, is ready.
 fn keeps<F: Field>(sheets: &Sheets, interlocking: &Interlocking, field: &F, route: usize) -> bool
     requires { route < route_count sheets.now }
-    ensures { result ≡ keeps sheets.now (meaning field.now) interlocking.now route }
+    ensures { result ≡ keeps sheets.now (F.meaning field.now) interlocking.now route }
 {
     !interlocking.state(route).is_clear() || is_ready(sheets, interlocking, field, route)
 }
 
 fn all_keep<F: Field>(sheets: &Sheets, interlocking: &Interlocking, field: &F) -> bool
-    ensures { result ≡ all_keep sheets.now (meaning field.now) interlocking.now }
+    ensures { result ≡ all_keep sheets.now (F.meaning field.now) interlocking.now }
 {
     for route in 0..sheets.routes.as_slice().len() {
         if !keeps(sheets, interlocking, field, route) {
@@ -51,7 +51,7 @@ fn all_keep<F: Field>(sheets: &Sheets, interlocking: &Interlocking, field: &F) -
 
 /// Drops clear routes until every clear route is ready.
 fn drop_until<F: Field>(sheets: &Sheets, interlocking: &mut Interlocking, field: &F)
-    ensures { interlocking.new ≡ drops_until sheets.now (meaning field.now) interlocking.old (route_count sheets.now) }
+    ensures { interlocking.new ≡ drops_until sheets.now (F.meaning field.now) interlocking.old (route_count sheets.now) }
 {
     for pass in 0..sheets.routes.as_slice().len() {
         if all_keep(sheets, interlocking, field) {
@@ -64,7 +64,7 @@ fn drop_until<F: Field>(sheets: &Sheets, interlocking: &mut Interlocking, field:
 /// A waiting route that is ready becomes clear.
 fn raise_one<F: Field>(sheets: &Sheets, interlocking: &mut Interlocking, field: &F, route: usize)
     requires { route < route_count sheets.now }
-    ensures { interlocking.new ≡ raise_one sheets.now (meaning field.now) interlocking.old route }
+    ensures { interlocking.new ≡ raise_one sheets.now (F.meaning field.now) interlocking.old route }
 {
     let state = interlocking.state(route);
     if state.is_waiting() {
@@ -75,7 +75,7 @@ fn raise_one<F: Field>(sheets: &Sheets, interlocking: &mut Interlocking, field: 
 
 /// A pass over all routes, in their order.
 fn raise_pass<F: Field>(sheets: &Sheets, interlocking: &mut Interlocking, field: &F)
-    ensures { interlocking.new ≡ raise_pass sheets.now (meaning field.now) interlocking.old (route_count sheets.now) }
+    ensures { interlocking.new ≡ raise_pass sheets.now (F.meaning field.now) interlocking.old (route_count sheets.now) }
 {
     for route in 0..sheets.routes.as_slice().len() {
         raise_one(sheets, interlocking, field, route);
@@ -85,13 +85,13 @@ fn raise_pass<F: Field>(sheets: &Sheets, interlocking: &mut Interlocking, field:
 /// Whether a route, if waiting, is not ready.
 fn rests<F: Field>(sheets: &Sheets, interlocking: &Interlocking, field: &F, route: usize) -> bool
     requires { route < route_count sheets.now }
-    ensures { result ≡ rests sheets.now (meaning field.now) interlocking.now route }
+    ensures { result ≡ rests sheets.now (F.meaning field.now) interlocking.now route }
 {
     !(interlocking.state(route).is_waiting() && is_ready(sheets, interlocking, field, route))
 }
 
 fn all_rest<F: Field>(sheets: &Sheets, interlocking: &Interlocking, field: &F) -> bool
-    ensures { result ≡ all_rest sheets.now (meaning field.now) interlocking.now }
+    ensures { result ≡ all_rest sheets.now (F.meaning field.now) interlocking.now }
 {
     for route in 0..sheets.routes.as_slice().len() {
         if !rests(sheets, interlocking, field, route) {
@@ -103,7 +103,7 @@ fn all_rest<F: Field>(sheets: &Sheets, interlocking: &Interlocking, field: &F) -
 
 /// Raises waiting routes until none of them is ready.
 fn raise_until<F: Field>(sheets: &Sheets, interlocking: &mut Interlocking, field: &F)
-    ensures { interlocking.new ≡ raises_until sheets.now (meaning field.now) interlocking.old (route_count sheets.now) }
+    ensures { interlocking.new ≡ raises_until sheets.now (F.meaning field.now) interlocking.old (route_count sheets.now) }
 {
     for pass in 0..sheets.routes.as_slice().len() {
         if all_rest(sheets, interlocking, field) {
@@ -115,7 +115,7 @@ fn raise_until<F: Field>(sheets: &Sheets, interlocking: &mut Interlocking, field
 
 /// Drops clear routes until every clear route is ready, then raises waiting routes until none of them is ready.
 pub fn settle<F: Field>(sheets: &Sheets, interlocking: &mut Interlocking, field: &F)
-    ensures { interlocking.new ≡ settled sheets.now (meaning field.now) interlocking.old }
+    ensures { interlocking.new ≡ settled sheets.now (F.meaning field.now) interlocking.old }
 {
     drop_until(sheets, interlocking, field);
     raise_until(sheets, interlocking, field);

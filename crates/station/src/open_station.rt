@@ -64,8 +64,8 @@ impl<F: Field> OpenStation<F> {
 
     /// Performs an act, or says why not.
     pub(crate) fn carry_out(&mut self, act: Act) -> Result<(), Refusal>
-        ensures answer { refusal_in result ≡ answer (sheets_of self.old.plan.drawing) (situation self.old.interlocking (meaning self.old.field)) act }
-        ensures situation { situation self.new.interlocking (meaning self.new.field) ≡ performed (sheets_of self.old.plan.drawing) (situation self.old.interlocking (meaning self.old.field)) act }
+        ensures answer { refusal_in result ≡ answer (sheets_of self.old.plan.drawing) (situation self.old.interlocking (F.meaning self.old.field)) act }
+        ensures situation { situation self.new.interlocking (F.meaning self.new.field) ≡ performed (sheets_of self.old.plan.drawing) (situation self.old.interlocking (F.meaning self.old.field)) act }
         ensures plan { self.new.plan.drawing ≡ self.old.plan.drawing }
     {
         perform(
@@ -78,8 +78,8 @@ impl<F: Field> OpenStation<F> {
 
     /// Performs an act, or says why not. A refused act changes nothing, after an accepted one all is settled, and no want of protection refuses a set.
     pub fn perform(&mut self, act: Act) -> Result<(), Refusal>
-        ensures answer { refusal_in result ≡ answer (sheets_of self.old.plan.drawing) (situation self.old.interlocking (meaning self.old.field)) act }
-        ensures situation { situation self.new.interlocking (meaning self.new.field) ≡ performed (sheets_of self.old.plan.drawing) (situation self.old.interlocking (meaning self.old.field)) act }
+        ensures answer { refusal_in result ≡ answer (sheets_of self.old.plan.drawing) (situation self.old.interlocking (F.meaning self.old.field)) act }
+        ensures situation { situation self.new.interlocking (F.meaning self.new.field) ≡ performed (sheets_of self.old.plan.drawing) (situation self.old.interlocking (F.meaning self.old.field)) act }
         ensures plan { self.new.plan.drawing ≡ self.old.plan.drawing }
         ensures set { SetExactly self.old.plan.drawing }
         ensures field { SameOnEveryField self.old.plan.drawing }
@@ -93,8 +93,8 @@ impl<F: Field> OpenStation<F> {
 
     /// Sets a route.
     pub fn set(&mut self, route: u8) -> Result<(), Refusal>
-        ensures answer { refusal_in result ≡ answer (sheets_of self.old.plan.drawing) (situation self.old.interlocking (meaning self.old.field)) (Set route) }
-        ensures situation { situation self.new.interlocking (meaning self.new.field) ≡ performed (sheets_of self.old.plan.drawing) (situation self.old.interlocking (meaning self.old.field)) (Set route) }
+        ensures answer { refusal_in result ≡ answer (sheets_of self.old.plan.drawing) (situation self.old.interlocking (F.meaning self.old.field)) (Set route) }
+        ensures situation { situation self.new.interlocking (F.meaning self.new.field) ≡ performed (sheets_of self.old.plan.drawing) (situation self.old.interlocking (F.meaning self.old.field)) (Set route) }
         ensures plan { self.new.plan.drawing ≡ self.old.plan.drawing }
     {
         self.carry_out(Act::Set { route })
@@ -102,8 +102,8 @@ impl<F: Field> OpenStation<F> {
 
     /// Clears a route: dropped, it waits again.
     pub fn clear(&mut self, route: u8) -> Result<(), Refusal>
-        ensures answer { refusal_in result ≡ answer (sheets_of self.old.plan.drawing) (situation self.old.interlocking (meaning self.old.field)) (Clear route) }
-        ensures situation { situation self.new.interlocking (meaning self.new.field) ≡ performed (sheets_of self.old.plan.drawing) (situation self.old.interlocking (meaning self.old.field)) (Clear route) }
+        ensures answer { refusal_in result ≡ answer (sheets_of self.old.plan.drawing) (situation self.old.interlocking (F.meaning self.old.field)) (Clear route) }
+        ensures situation { situation self.new.interlocking (F.meaning self.new.field) ≡ performed (sheets_of self.old.plan.drawing) (situation self.old.interlocking (F.meaning self.old.field)) (Clear route) }
         ensures plan { self.new.plan.drawing ≡ self.old.plan.drawing }
     {
         self.carry_out(Act::Clear { route })
@@ -111,8 +111,8 @@ impl<F: Field> OpenStation<F> {
 
     /// Releases a route.
     pub fn release(&mut self, route: u8) -> Result<(), Refusal>
-        ensures answer { refusal_in result ≡ answer (sheets_of self.old.plan.drawing) (situation self.old.interlocking (meaning self.old.field)) (Release route) }
-        ensures situation { situation self.new.interlocking (meaning self.new.field) ≡ performed (sheets_of self.old.plan.drawing) (situation self.old.interlocking (meaning self.old.field)) (Release route) }
+        ensures answer { refusal_in result ≡ answer (sheets_of self.old.plan.drawing) (situation self.old.interlocking (F.meaning self.old.field)) (Release route) }
+        ensures situation { situation self.new.interlocking (F.meaning self.new.field) ≡ performed (sheets_of self.old.plan.drawing) (situation self.old.interlocking (F.meaning self.old.field)) (Release route) }
         ensures plan { self.new.plan.drawing ≡ self.old.plan.drawing }
     {
         self.carry_out(Act::Release { route })
@@ -120,8 +120,8 @@ impl<F: Field> OpenStation<F> {
 
     /// Takes an event: the field is told.
     pub fn take(&mut self, event: Event) -> Result<(), Refusal>
-        ensures answer { refusal_in result ≡ answer (sheets_of self.old.plan.drawing) (situation self.old.interlocking (meaning self.old.field)) (Tell event) }
-        ensures situation { situation self.new.interlocking (meaning self.new.field) ≡ performed (sheets_of self.old.plan.drawing) (situation self.old.interlocking (meaning self.old.field)) (Tell event) }
+        ensures answer { refusal_in result ≡ answer (sheets_of self.old.plan.drawing) (situation self.old.interlocking (F.meaning self.old.field)) (Tell event) }
+        ensures situation { situation self.new.interlocking (F.meaning self.new.field) ≡ performed (sheets_of self.old.plan.drawing) (situation self.old.interlocking (F.meaning self.old.field)) (Tell event) }
         ensures plan { self.new.plan.drawing ≡ self.old.plan.drawing }
     {
         self.carry_out(Act::Tell { event })

@@ -17,8 +17,8 @@ use plan::plan::Plan;
 impl<F: Field> OpenStation<F> {
     /// Performs the act of an entry, and gives the entry with its answer.
     fn answer(&mut self, entry: Entry) -> Entry
-        ensures entry { result ≡ answered_in self.old.plan.drawing (situation self.old.interlocking (meaning self.old.field)) entry }
-        ensures situation { situation self.new.interlocking (meaning self.new.field) ≡ performed (sheets_of self.old.plan.drawing) (situation self.old.interlocking (meaning self.old.field)) entry.act }
+        ensures entry { result ≡ answered_in self.old.plan.drawing (situation self.old.interlocking (F.meaning self.old.field)) entry }
+        ensures situation { situation self.new.interlocking (F.meaning self.new.field) ≡ performed (sheets_of self.old.plan.drawing) (situation self.old.interlocking (F.meaning self.old.field)) entry.act }
         ensures plan { self.new.plan.drawing ≡ self.old.plan.drawing }
     {
         let refusal = match self.carry_out(entry.act) {
@@ -35,10 +35,10 @@ impl<F: Field> OpenStation<F> {
 /// Opens a station on a plan and a field, performs the acts of a journal in their order, writes the answer to each in its place,
 /// and gives the open station. Whatever the acts, the law over runs holds after every one of them.
 pub fn perform_all<F: Field>(plan: Plan, field: F, journal: &mut [Entry]) -> OpenStation<F>
-    ensures situation { situation result.interlocking (meaning result.field) ≡ run plan.drawing (meaning field) (acts_in journal.old) }
-    ensures answers { journal.new ≡ answered plan.drawing (opened (meaning field)) journal.old }
+    ensures situation { situation result.interlocking (F.meaning result.field) ≡ run plan.drawing (F.meaning field) (acts_in journal.old) }
+    ensures answers { journal.new ≡ answered plan.drawing (opened (F.meaning field)) journal.old }
     ensures plan { result.plan.drawing ≡ plan.drawing }
-    ensures law { Law plan.drawing (meaning field) (acts_in journal.old) }
+    ensures law { Law plan.drawing (F.meaning field) (acts_in journal.old) }
 {
     let mut station = ClosedStation { plan, field }.open();
     for place in 0..journal.len() {

@@ -4,17 +4,17 @@ use Rattle.sheets.specs.Lists.{all_of}
 use Rattle.acts.specs.Answers.{path_free_at}
 use Rattle.acts.proofs.releasing.is_path_free.Goals as goal
 
-pub returns-then-not-is-path-free-at : goal.returns-then-not-is-path-free-at
-returns-then-not-is-path-free-at g c =
-    let more = at_drop_more (all_of (path_free_at c.args.sheet.now (g.F.Field.meaning c.args.field.now))) c.as-slice-used.result.now c.loop-section.section-index 0 c.loop-section-test.true in
+pub returns-then-not-is_path_free_at : goal.returns-then-not-is_path_free_at
+returns-then-not-is_path_free_at g c =
+    let more = at_drop_more (all_of (path_free_at c.args.sheet.now (g.F.Field.meaning c.args.field.now))) c.as_slice-used.result.now c.loop-section.section-index 0 c.loop-section-test.true in
     search rules
 
 pub loop-section-preserved : goal.loop-section-preserved
 loop-section-preserved g c =
-    let more = at_drop_more (all_of (path_free_at c.args.sheet.now (g.F.Field.meaning c.args.field.now))) c.as-slice-used.result.now c.loop-section.section-index 0 c.loop-section-test.true in
+    let more = at_drop_more (all_of (path_free_at c.args.sheet.now (g.F.Field.meaning c.args.field.now))) c.as_slice-used.result.now c.loop-section.section-index 0 c.loop-section-test.true in
     search rules
 
 pub returns : goal.returns
 returns g c =
-    let all = at_drop_all (all_of (path_free_at c.args.sheet.now (g.F.Field.meaning c.args.field.now))) c.as-slice-used.result.now c.loop-section.section-index c.loop-section-test.false in
+    let all = at_drop_all (all_of (path_free_at c.args.sheet.now (g.F.Field.meaning c.args.field.now))) c.as_slice-used.result.now c.loop-section.section-index c.loop-section-test.false in
     search rules

@@ -6,15 +6,15 @@ use Rattle.readiness.proofs.readiness.are_sections_free.Goals as goal
 
 pub returns-then-is_occupied : goal.returns-then-is_occupied
 returns-then-is_occupied g c =
-    let more = at_drop_more (all_of (is_free (g.F.Field.meaning c.args.field.now))) c.as-slice-used.result.now c.loop-section.section-index 0 c.loop-section-test.true in
+    let more = at_drop_more (all_of (is_free (g.F.Field.meaning c.args.field.now))) c.as_slice-used.result.now c.loop-section.section-index 0 c.loop-section-test.true in
     search rules
 
 pub loop-section-preserved : goal.loop-section-preserved
 loop-section-preserved g c =
-    let more = at_drop_more (all_of (is_free (g.F.Field.meaning c.args.field.now))) c.as-slice-used.result.now c.loop-section.section-index 0 c.loop-section-test.true in
+    let more = at_drop_more (all_of (is_free (g.F.Field.meaning c.args.field.now))) c.as_slice-used.result.now c.loop-section.section-index 0 c.loop-section-test.true in
     search rules
 
 pub returns : goal.returns
 returns g c =
-    let all = at_drop_all (all_of (is_free (g.F.Field.meaning c.args.field.now))) c.as-slice-used.result.now c.loop-section.section-index c.loop-section-test.false in
+    let all = at_drop_all (all_of (is_free (g.F.Field.meaning c.args.field.now))) c.as_slice-used.result.now c.loop-section.section-index c.loop-section-test.false in
     search rules
