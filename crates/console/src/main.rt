@@ -1,42 +1,43 @@
 //! The console: commands on standard input, one on a line, and what each did in print.
 #![tactic(auto)]
 
-mod acting;
-mod asking;
 mod command;
+mod equipment;
 mod hex;
-mod looking;
-mod preparing;
-mod refused;
-mod replay;
 mod session;
-mod understanding;
-mod working;
 
-use command::Command;
+use command::{Command, understood, with_blanks};
 use session::Session;
 use std::io::{BufRead, BufReader};
-use understanding::{understood, with_blanks};
 
-/// Does what a line asks for.
-fn carry_out(rt: &HostRuntime, session: Session, line: &str) -> anyhow::Result<Session> {
-    match with_blanks(rt.alloc(), line) {
-        Ok(line) => session.carry_out(rt, understood(line.as_str())),
-        Err(error) => {
-            session.end();
-            Err(error.into())
+fn perform(rt: &HostRuntime, session: &mut Session, line: &str) -> anyhow::Result<()> {
+    let line = with_blanks(rt.alloc(), line)?;
+    match understood(line.as_str()) {
+        Command::Nothing => Ok(()),
+        Command::Plan(digits) => session.read_plan(rt, digits),
+        Command::Flanks(route) => session.tell_flanks(rt, route),
+        Command::FieldTable => session.take_table(rt),
+        Command::FieldContacts(digits) => session.take_contacts(rt, digits),
+        Command::Contacts => session.show_contacts(rt),
+        Command::Tell(news, number, value) => session.tell(rt, news, number, value),
+        Command::Order(element, position) => session.order(rt, element, position),
+        Command::Element(element) => session.show_element(rt, element),
+        Command::Section(section) => session.show_section(rt, section),
+        Command::Show => session.show(rt),
+        Command::Wrong(words) => {
+            println!(rt; "error: {words}")?;
+            Ok(())
         }
     }
 }
 
 fn main(rt: HostRuntime) -> anyhow::Result<()> {
-    let mut session = Session::new(rt.alloc());
+    let mut session = Session::new();
     for line in BufReader::new(rt.alloc(), rt.stdin())?.lines(rt.alloc()) {
-        session = match line {
-            Ok(text) => carry_out(&rt, session, text.as_str())?,
-            Err(_) => session.carry_out(&rt, Command::Wrong("the line is no text"))?,
-        };
+        match line {
+            Ok(text) => perform(&rt, &mut session, text.as_str())?,
+            Err(_) => println!(rt; "error: the line is no text")?,
+        }
     }
-    session.end();
     Ok(())
 }

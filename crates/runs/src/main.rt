@@ -1,6 +1,10 @@
 //! Whole runs: a station is opened on a small plan, acts are performed, and signals are looked at.
+#![tactic(auto)]
 
-use crate::stations;
+mod stations;
+
+ghost use Rattle.runs.specs.Runs.{WorkedRuns};
+
 use acts::act::{Act, Event};
 use contacts::picture::ContactPicture;
 use field::field::Field;
@@ -10,6 +14,13 @@ use station::journal::Entry;
 use station::running::perform_all;
 use std::alloc::{AllocError, Global};
 use tablefield::table::TableField;
+
+/// The worked runs hold of the definitions.
+pub fn runs_hold() -> bool
+    ensures { WorkedRuns }
+{
+    true
+}
 
 const SET: Act = Act::Set { route: 0 };
 
@@ -121,7 +132,9 @@ fn on_two_routes(rt: &HostRuntime) -> anyhow::Result<()> {
     )
 }
 
-pub fn run(rt: &HostRuntime) -> anyhow::Result<()> {
-    on_k(rt)?;
-    on_two_routes(rt)
+fn main(rt: HostRuntime) -> anyhow::Result<()> {
+    let stated = runs_hold();
+    println!(rt; "stated of the definitions: {stated}")?;
+    on_k(&rt)?;
+    on_two_routes(&rt)
 }
