@@ -17,6 +17,12 @@ const MOST_BRANCHES: usize = 9216;
 fn words_of(refusal: Refusal) -> &'static str {
     match refusal {
         Refusal::NoSuchRoute => "no such route",
+        Refusal::StandsAlready => "the route stands already",
+        Refusal::SectionInUse => "another route uses a section of it",
+        Refusal::HeldOtherwise => "an element is held in the other position",
+        Refusal::NotStanding => "the route does not stand",
+        Refusal::PathOccupied => "a section of its path is occupied",
+        Refusal::NotOfThePlan => "the plan has no such number, or there is no such value",
         Refusal::ListTooShort => "a list is too short",
     }
 }

@@ -30,8 +30,9 @@ fn carry_out(rt: &HostRuntime, session: Session, line: &str) -> anyhow::Result<S
 }
 
 fn main(rt: HostRuntime) -> anyhow::Result<()> {
+    let input = BufReader::new(rt.alloc(), rt.stdin())?;
     let mut session = Session::new(rt.alloc());
-    for line in BufReader::new(rt.alloc(), rt.stdin())?.lines(rt.alloc()) {
+    for line in input.lines(rt.alloc()) {
         session = match line {
             Ok(text) => carry_out(&rt, session, text.as_str())?,
             Err(_) => session.carry_out(&rt, Command::Wrong("the line is no text"))?,
