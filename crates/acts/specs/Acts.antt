@@ -1,5 +1,5 @@
 -- What an act makes of the situation.
-use Rattle.std.specs.Prelude.{ℕ, Bool, cond, List, [], Some, None, Option, ◌==◌}
+use Rattle.std.specs.Prelude.{ℕ, cond, List, [], Some, None, Option, ◌==◌}
 use Rattle.layout.specs.declared.position.Position.{Position}
 use Rattle.layout.specs.declared.position.Position.TheVariants as position
 use Rattle.field.specs.Meaning.{Meaning, told_report, told_block, told_lamp, told_occupation}

@@ -1,5 +1,5 @@
 -- What an act is answered: acceptance, or the first refusal that applies.
-use Rattle.std.specs.Prelude.{ℕ, Bool, true, cond, not, ◌&&◌, Some, None, Option, nat_lt}
+use Rattle.std.specs.Prelude.{ℕ, Bool, cond, not, ◌&&◌, Some, None, Option, nat_lt}
 use Rattle.layout.specs.Kinds.{is_signal}
 use Rattle.field.specs.Meaning.{Meaning, occupied_of}
 use Rattle.refusals.specs.declared.refusal.Refusal.{Refusal}

@@ -1,6 +1,5 @@
 -- What signals show.
 use Rattle.std.specs.Prelude.{ℕ, zero, suc, Bool, true, false, cond, ◌&&◌, ◌==◌}
-use Rattle.sheets.specs.declared.sheet.RouteSheet.{RouteSheet}
 use Rattle.sheets.specs.declared.sheet.Sheets.{Sheets}
 use Rattle.sheets.specs.declared.sheet.Showing.{Showing}
 use Rattle.sheets.specs.declared.sheet.Showing.TheVariants as showing

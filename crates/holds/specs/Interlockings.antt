@@ -1,7 +1,5 @@
 -- What is read off the holds and states of a station, and one change of each.
-use Rattle.std.specs.Prelude.{ℕ, Bool, false, [], replicate, slice_index_or, slice_set}
-use Rattle.layout.specs.declared.position.Position.{Position}
-use Rattle.layout.specs.declared.position.Position.TheVariants as position
+use Rattle.std.specs.Prelude.{ℕ, Bool, replicate, slice_index_or, slice_set}
 use Rattle.holds.specs.declared.hold.Hold.{Hold}
 use Rattle.holds.specs.declared.interlocking.Interlocking.{Interlocking}
 use Rattle.holds.specs.declared.state.RouteState.{RouteState}

@@ -3,7 +3,7 @@ use Rattle.std.proofs.Common.{◌≡◌, ℕ, zero, suc, ◌<◌, false, ltb, �
 use Rattle.std.proofs.lemmas.Bool.{le-ltb, cases_lt}
 use Rattle.layout.specs.declared.element.Element.{Element}
 use Rattle.layout.specs.declared.element.Join.{Join}
-use Rattle.layout.specs.Ports.{at, join_of, joined}
+use Rattle.layout.specs.Ports.{joined}
 
 pub some_apart : {X : Type 0} {x : X} → ◌≡◌ {A = Option X} None (Some x) → ⊥
 some_apart e = let z : ◌≡◌ {A = ℕ} 0 1 = cc in omega arith

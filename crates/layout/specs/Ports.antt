@@ -1,5 +1,5 @@
 -- The elements of a drawing by number, and what their ports are joined to.
-use Rattle.std.specs.Prelude.{ℕ, cond, List, [], length, Some, None, Option, nat_lt, slice_index_or}
+use Rattle.std.specs.Prelude.{ℕ, cond, List, [], length, None, Option, nat_lt, slice_index_or}
 use Rattle.layout.specs.declared.element.Element.{Element}
 use Rattle.layout.specs.declared.element.Join.{Join}
 use Rattle.layout.specs.declared.kind.Kind.TheVariants as kind

@@ -1,6 +1,6 @@
 -- The test of a route's overlap passes exactly the allowed ones.
-use Rattle.std.proofs.Common.{◌≡◌, ℕ, zero, suc, ◌-◌, ◌<◌, ◌≤◌, Bool, true, false, not, ◌&&◌, ◌||◌, ltb, ◌≢◌, ◌⊎◌, List, [], ◌∷◌, length, get_or, is_some, Some, None, Option, sym, refl, ap, ◌∙◌, subst, inl, inr, arith}
-use Rattle.std.proofs.lemmas.Bool.{and_parts, and_from, or_cases, not-true, not_from_false, both_ways, cases_Bool, ltb-true, lt-ltb, true≢false}
+use Rattle.std.proofs.Common.{◌≡◌, ℕ, zero, suc, ◌<◌, Bool, true, false, not, ◌&&◌, ◌||◌, ltb, ◌≢◌, List, ◌∷◌, length, is_some, Some, None, Option, sym, refl, ap, ◌∙◌, subst, inl, inr, arith}
+use Rattle.std.proofs.lemmas.Bool.{and_parts, and_from, not-true, not_from_false, both_ways, cases_Bool, ltb-true, lt-ltb, true≢false}
 use Rattle.bounded.specs.declared.bounded.Bounded.{Bounded}
 use Rattle.bounded.specs.Lists.{listed}
 use Rattle.layout.specs.declared.element.Element.{Element}
@@ -12,12 +12,12 @@ use Rattle.layout.specs.declared.route.RouteClass.TheVariants as class
 use Rattle.layout.specs.Kinds.{is_signal, is_point}
 use Rattle.layout.specs.Ports.{at}
 use Rattle.layout.specs.Sound.{SoundElements}
-use Rattle.layout.specs.Ways.{place, kind_at, Runs}
+use Rattle.layout.specs.Ways.{place, kind_at}
 use Rattle.layout.proofs.KindTests.{point_test, signal_test}
 use Rattle.paths.specs.Following.{follows}
 use Rattle.paths.specs.Places.{are_within, are_new}
 use Rattle.paths.specs.Overlaps.{is_overlap, is_beyond, is_train, is_overlap_allowed}
-use Rattle.paths.specs.Sound.{Within, Once, last, SoundOverlap, HasSoundPath, AllowedOverlap, no_overlap, zero_overlap, some_overlap}
+use Rattle.paths.specs.Sound.{Within, last, SoundOverlap, HasSoundPath, AllowedOverlap, no_overlap, zero_overlap, some_overlap}
 use Rattle.paths.proofs.StepsExact.{Followed, follows_sound}
 use Rattle.paths.proofs.PlacesExact.{within_sound, within_from, new_apart, new_once, new_from}
 use Rattle.paths.proofs.PathsExact.{runs_of, forward, followed_from}

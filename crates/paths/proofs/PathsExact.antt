@@ -1,5 +1,5 @@
 -- The test of a route's path passes exactly the sound paths.
-use Rattle.std.proofs.Common.{◌≡◌, ℕ, zero, suc, ◌-◌, ◌<◌, ◌≤◌, Bool, true, false, not, ◌&&◌, eqb, ltb, ◌≢◌, ◌⊎◌, List, [], ◌∷◌, length, get_or, drop, Some, None, Option, sym, refl, ap, ◌∙◌, inl, inr, arith}
+use Rattle.std.proofs.Common.{◌≡◌, ℕ, zero, suc, ◌-◌, ◌<◌, true, false, not, ◌&&◌, ltb, ◌⊎◌, List, [], ◌∷◌, length, get_or, Some, None, Option, sym, refl, ap, ◌∙◌, inl, inr, arith}
 use Rattle.std.proofs.lemmas.Bool.{and_parts, and_from, eqb-true, eq-eqb, ltb-true, lt-ltb, cases_eq, cases_lt, true≢false}
 use Rattle.bounded.specs.declared.bounded.Bounded.{Bounded}
 use Rattle.bounded.specs.Lists.{listed}
@@ -13,16 +13,16 @@ use Rattle.layout.specs.declared.route.Route.{Route}
 use Rattle.layout.specs.declared.route.RouteClass.{RouteClass}
 use Rattle.layout.specs.declared.route.RouteClass.TheVariants as class
 use Rattle.layout.specs.Kinds.{ports, is_signal}
-use Rattle.layout.specs.Ports.{at, join_of, joined}
-use Rattle.layout.specs.Sound.{SoundElements, HasItsFields, WellJoined}
+use Rattle.layout.specs.Ports.{at, joined}
+use Rattle.layout.specs.Sound.{SoundElements}
 use Rattle.layout.specs.Ways.{place, port, kind_at, Runs}
 use Rattle.layout.proofs.KindTests.{signal_test}
 use Rattle.paths.specs.Following.{turns, follows}
 use Rattle.paths.specs.Places.{are_within, are_new, are_signals_between}
 use Rattle.paths.specs.Paths.{may_start, is_start, may_end, is_end_at, is_end, is_path, has_path}
-use Rattle.paths.specs.Sound.{Starts, train_from_train, train_from_entry, shunting_from_shunting, shunting_from_train, Within, Once, last, SoundPath, HasSoundPath}
+use Rattle.paths.specs.Sound.{Starts, train_from_train, train_from_entry, shunting_from_shunting, shunting_from_train, last, SoundPath, HasSoundPath}
 use Rattle.paths.proofs.StepsExact.{turns_sound, turns_from, Followed, follows_sound, follows_from}
-use Rattle.paths.proofs.PlacesExact.{within_sound, within_from, new_once, new_from, body_sound, body_from, Body}
+use Rattle.paths.proofs.PlacesExact.{within_sound, within_from, new_once, new_from, body_sound, body_from}
 
 -- a port that is joined is one that the element's kind has
 pub joined_port : (es : List Element) → SoundElements es → (e p : ℕ) (j : Join) → e < length es → joined es e p ≡ Some j → p < ports (at es e).kind

@@ -1,5 +1,5 @@
 -- Sound overlaps, and which routes may have one: the test.
-use Rattle.std.specs.Prelude.{ℕ, ◌-◌, Bool, true, false, not, ◌&&◌, ◌||◌, List, [], length, is_some, Some, None, Option, nat_lt, slice_index}
+use Rattle.std.specs.Prelude.{ℕ, ◌-◌, Bool, true, false, not, ◌&&◌, ◌||◌, List, length, is_some, Some, None, Option, nat_lt, slice_index}
 use Rattle.bounded.specs.declared.bounded.Bounded.{Bounded}
 use Rattle.bounded.specs.Lists.{listed}
 use Rattle.layout.specs.declared.element.Element.{Element}

@@ -1,9 +1,8 @@
 -- A route passes the test of requests exactly if it requests no element both ways.
-use Rattle.std.proofs.Common.{◌≡◌, ℕ, ◌+◌, ◌<◌, ◌≤◌, Bool, true, false, not, ◌&&◌, ltb, ◌⊎◌, List, length, get_or, is_some, Some, None, Option, sym, refl, ap, ◌∙◌, subst, inl, inr, arith}
-use Rattle.std.proofs.lemmas.Bool.{and_parts, and_from, not-true, not-false, not_from_false, not_from_true, both_ways, cases_lt, le-ltb, lt-ltb, ltb-true}
+use Rattle.std.proofs.Common.{◌≡◌, ℕ, ◌+◌, ◌<◌, ◌≤◌, Bool, true, false, not, ltb, ◌⊎◌, List, length, get_or, is_some, Some, None, Option, sym, refl, ap, subst, inl, inr, arith}
+use Rattle.std.proofs.lemmas.Bool.{and_parts, and_from, not-true, not-false, not_from_false, both_ways, cases_lt, le-ltb, lt-ltb, ltb-true}
 use Rattle.layout.specs.declared.element.Element.{Element}
 use Rattle.layout.specs.declared.element.Join.{Join}
-use Rattle.layout.specs.declared.kind.Kind.{Kind}
 use Rattle.layout.specs.declared.kind.Kind.TheVariants as kind
 use Rattle.layout.specs.declared.kind.Dual.{Dual}
 use Rattle.layout.specs.declared.kind.Dual.TheVariants as dual
@@ -16,14 +15,13 @@ use Rattle.layout.specs.Ports.{at}
 use Rattle.layout.specs.Sound.{SoundElements}
 use Rattle.layout.proofs.EveryTurn.{every_each, every_not}
 use Rattle.paths.specs.Sound.{HasSoundPath, AllowedOverlap}
-use Rattle.flank.specs.declared.answers.Mark.{Mark}
 use Rattle.flank.specs.Search.{unmarked}
 use Rattle.flank.specs.Protection.{route_marks, request, requests_of}
 use Rattle.walks.specs.Walks.{Is, Prefers, both, plus, minus, Able, derailer, signal, point, Requested}
 use Rattle.walks.specs.Exactly.{In}
 use Rattle.walks.proofs.Tables.{in_requests, requests_have}
 use Rattle.walks.proofs.Exactly.{requests_exact}
-use Rattle.plan.specs.RequestTests.{is_asked_twice, is_torn, is_whole, asks_both_ways}
+use Rattle.plan.specs.RequestTests.{is_torn, is_whole, asks_both_ways}
 
 abbrev prefers : Position → Dual
 prefers position.Plus = dual.PrefersPlus

@@ -1,6 +1,6 @@
 -- A drawing passes the checks exactly if it is a sound plan.
-use Rattle.std.proofs.Common.{◌≡◌, ℕ, ◌<◌, ◌≤◌, min, Bool, true, false, cond, not, ◌⊎◌, List, length, get_or, take, Some, None, Option, sym, refl, ap, ◌∙◌, inl, inr, arith}
-use Rattle.std.proofs.lemmas.Bool.{cases_Bool, true≢false}
+use Rattle.std.proofs.Common.{◌≡◌, ℕ, ◌<◌, ◌≤◌, min, Bool, true, false, not, List, length, get_or, Some, None, Option, sym, refl, ap, arith}
+use Rattle.std.proofs.lemmas.Bool.{true≢false}
 use Rattle.std.proofs.lemmas.List.{length-take}
 use Rattle.bounded.specs.declared.bounded.Bounded.{Bounded}
 use Rattle.bounded.specs.Lists.{listed}
@@ -12,18 +12,17 @@ use Rattle.layout.specs.declared.element.Element.{Element}
 use Rattle.layout.specs.declared.route.Route.{Route}
 use Rattle.layout.specs.Drawings.{no_route}
 use Rattle.layout.specs.Ports.{at}
-use Rattle.layout.specs.Sound.{SoundElements, HasItsFields, WellJoined}
+use Rattle.layout.specs.Sound.{SoundElements}
 use Rattle.layout.proofs.JoinPorts.{some_apart}
 use Rattle.paths.specs.Paths.{has_path}
 use Rattle.paths.specs.Overlaps.{is_overlap_allowed}
 use Rattle.paths.specs.Sound.{HasSoundPath, AllowedOverlap}
 use Rattle.paths.proofs.PathsExact.{paths_exact}
 use Rattle.paths.proofs.OverlapsExact.{overlaps_exact}
-use Rattle.planbytes.specs.Bytes.{fault}
 use Rattle.plan.specs.declared.demand.Demand.{Demand}
 use Rattle.plan.specs.declared.demand.Demand.TheVariants as the
 use Rattle.plan.specs.RequestTests.{asks_both_ways}
-use Rattle.plan.specs.Checks.{first_of, first_fault, unmet, cause_of, meets, element_fault, elements_fault, route_fault, route_fault_at, routes_fault, content_fault, drawing_fault}
+use Rattle.plan.specs.Checks.{first_of, unmet, cause_of, meets, element_fault, elements_fault, route_fault_at, routes_fault, drawing_fault}
 use Rattle.plan.specs.Plans.{is_none, is_sound}
 use Rattle.plan.specs.Sound.{SoundPlan, ChecksExact}
 use Rattle.plan.proofs.FirstTurn.{neither, neither_from, first_clear, first_from}

@@ -1,5 +1,5 @@
 -- The start and a turn of a loop that takes a step n times.
-use Rattle.std.proofs.Common.{◌≡◌, ℕ, zero, suc, ◌+◌, ◌-◌, ◌<◌, ◌≤◌, Ok, Err, Result, refl, arith}
+use Rattle.std.proofs.Common.{◌≡◌, ℕ, suc, ◌+◌, ◌-◌, ◌<◌, Result, arith}
 use Rattle.faults.specs.declared.fault.Fault.{Fault}
 use Rattle.planbytes.specs.Bytes.{and_then, times}
 

@@ -1,12 +1,11 @@
 -- Requests with what is held of them, written into the first places of a list, one table place after another.
-use Rattle.std.proofs.Common.{◌≡◌, ℕ, zero, suc, ◌+◌, ◌*◌, ◌≤◌, true, List, [], ◌∷◌, ◌++◌, map, length, get_or, Some, sym, refl, ap, ◌∙◌, arith}
+use Rattle.std.proofs.Common.{◌≡◌, ℕ, ◌+◌, ◌*◌, ◌≤◌, true, List, [], ◌∷◌, ◌++◌, map, length, get_or, Some, refl, ap, ◌∙◌, arith}
 use lib.ListN.{length-map}
 use Rattle.std.proofs.lemmas.Bool.{and_from, le-leb}
 use Rattle.layout.specs.declared.element.Element.{Element}
 use Rattle.layout.specs.declared.route.Route.{Route}
 use Rattle.flank.specs.declared.answers.Branch.{Branch}
 use Rattle.flank.specs.declared.answers.Mark.{Mark}
-use Rattle.flank.specs.declared.answers.Request.{Request}
 use Rattle.flank.specs.Search.{unmarked}
 use Rattle.flank.specs.Protection.{requests_at, requests_in, route_marks, branches_of, put_at}
 use Rattle.flank.proofs.Lists.{requests_more, requests_few, put_filled}

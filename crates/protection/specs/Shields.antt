@@ -1,5 +1,5 @@
 -- What protects the flanks of a route on a station, and the lists that are filled with it.
-use Rattle.std.specs.Prelude.{ℕ, Bool, cond, ◌&&◌, List, [], ◌∷◌, map, length, Some, None, Option, nat_le}
+use Rattle.std.specs.Prelude.{ℕ, Bool, cond, ◌&&◌, List, map, length, Some, None, Option, nat_le}
 use Rattle.layout.specs.declared.element.Element.{Element}
 use Rattle.layout.specs.declared.route.Route.{Route}
 use Rattle.flank.specs.declared.answers.Branch.{Branch}

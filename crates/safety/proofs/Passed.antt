@@ -1,9 +1,7 @@
 -- Every point and derailer that a route uses is passed by it in some position, and its sheet needs it there.
-use Rattle.std.proofs.Common.{◌≡◌, ℕ, zero, suc, ◌-◌, ◌<◌, ◌≤◌, true, ◌≢◌, ◌⊎◌, List, [], ◌∷◌, length, get_or, Some, sym, refl, ap, ◌∙◌, subst, inl, inr, ⊎_elim, arith}
-use Rattle.std.proofs.lemmas.Bool.{cases_eq}
+use Rattle.std.proofs.Common.{◌≡◌, ℕ, suc, ◌<◌, true, ◌≢◌, ◌⊎◌, List, [], length, Some, sym, ap, ◌∙◌, subst, inl, inr, ⊎_elim, arith}
 use Rattle.layout.specs.declared.drawing.Drawing.{Drawing}
 use Rattle.layout.specs.declared.element.Element.{Element}
-use Rattle.layout.specs.declared.kind.Kind.{Kind}
 use Rattle.layout.specs.declared.kind.Kind.TheVariants as kind
 use Rattle.layout.specs.declared.position.Position.{Position}
 use Rattle.layout.specs.declared.position.Position.TheVariants as position
@@ -11,7 +9,7 @@ use Rattle.layout.specs.declared.route.Route.{Route}
 use Rattle.layout.specs.Ports.{at}
 use Rattle.layout.specs.Sound.{SoundElements}
 use Rattle.layout.specs.Ways.{place, Runs}
-use Rattle.layout.specs.Uses.{path_of, overlap_of, way_beyond, Between, UsesInPath, UsesInOverlap, Uses, PassesBy, leg, PassesIn}
+use Rattle.layout.specs.Uses.{path_of, overlap_of, way_beyond, Between, UsesInPath, UsesInOverlap, Uses, PassesBy, PassesIn}
 use Rattle.paths.specs.Sound.{Within, last, SoundOverlap}
 use Rattle.walks.proofs.Flanks.{SoundRoute, sound_route, beyond_within}
 use Rattle.walks.proofs.Exactly.{overlap_within}

@@ -1,5 +1,5 @@
 -- The law over runs in the words of the subject, from the law over sheets.
-use Rattle.std.proofs.Common.{◌≡◌, ℕ, ◌+◌, ◌<◌, ◌≤◌, true, false, ◌≢◌, ◌⊎◌, List, length, get_or, take, Some, Ok, Option, sym, refl, ap, ◌∙◌, subst, inl, inr, ⊎_elim}
+use Rattle.std.proofs.Common.{◌≡◌, ℕ, ◌+◌, ◌<◌, ◌⊎◌, List, get_or, take, Some, sym, refl, ap, ◌∙◌, subst, inl, inr, ⊎_elim}
 use Rattle.std.proofs.lemmas.Bool.{both_ways}
 use Rattle.layout.specs.declared.drawing.Drawing.{Drawing}
 use Rattle.layout.specs.declared.element.Element.{Element}
@@ -8,19 +8,18 @@ use Rattle.layout.specs.declared.kind.Kind.TheVariants as kind
 use Rattle.layout.specs.declared.position.Position.{Position}
 use Rattle.layout.specs.declared.route.Route.{Route}
 use Rattle.layout.specs.Ports.{at}
-use Rattle.layout.specs.Uses.{Uses}
 use Rattle.walks.specs.Walks.{Requested, Able, derailer, signal, point}
 use Rattle.walks.proofs.Exactly.{requests_exact}
 use Rattle.walks.proofs.Flanks.{sound_route}
 use Rattle.walks.proofs.Tables.{in_requests}
 use Rattle.flank.specs.Protection.{route_marks}
 use Rattle.sheets.specs.declared.sheet.RouteSheet.{RouteSheet}
-use Rattle.sheets.specs.Reading.{route_sheet, request_of, element_of, on_path, moves}
+use Rattle.sheets.specs.Reading.{route_sheet, request_of, on_path, moves}
 use Rattle.sheets.specs.Sheets.{sheets_of}
 use Rattle.plan.specs.Flanks.{route_of}
 use Rattle.plan.specs.Sound.{SoundPlan}
-use Rattle.sheetlaws.specs.Routes.{elements_of, HasRoute, sheet_at}
-use Rattle.sheetlaws.specs.Ends.{first_element, EndsAtSignal}
+use Rattle.sheetlaws.specs.Routes.{elements_of, HasRoute}
+use Rattle.sheetlaws.specs.Ends.{first_element}
 use Rattle.sheetlaws.proofs.EndsExact.{ends_exact}
 use Rattle.sheetlaws.proofs.RequestsExact.{sheet_requests_exact}
 use Rattle.field.specs.Meaning.{Meaning}
@@ -32,8 +31,8 @@ use Rattle.runlaws.specs.Lawful as over
 use Rattle.runlaws.specs.SheetLaw as sheet
 use Rattle.runlaws.proofs.Coherent.{Coherent}
 use Rattle.runlaws.proofs.Runs.{starts_one, run_coherent, law_holds}
-use Rattle.safety.specs.Words.{run, Standing, Holds, RouteUses, Excused, Moved, point as moved-point, derailer as moved-derailer, Passes, Shielding, reported, burning, Permissive}
-use Rattle.safety.specs.Law.{Apart, Guarded, Undisturbed, Safe, SafeRun, UntilReleased, Law}
+use Rattle.safety.specs.Words.{run, Standing, Excused, Moved, point as moved-point, derailer as moved-derailer, Shielding, reported, burning}
+use Rattle.safety.specs.Law.{Apart, Guarded, Safe, Law}
 use Rattle.safety.proofs.PlanLawful.{same_sheet, route_known, path_told, use_told, first_told, plan_lawful}
 use Rattle.safety.proofs.Passed.{used_passed, moved_moves, used_low, kind_told, need_told}
 

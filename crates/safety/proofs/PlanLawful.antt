@@ -1,15 +1,14 @@
 -- The sheets of a sound plan have all that the law over runs asks of sheets.
-use Rattle.std.proofs.Common.{◌≡◌, ℕ, ◌<◌, ◌≤◌, Bool, true, false, ◌||◌, ◌≢◌, ◌⊎◌, length, is_some, Some, None, Option, sym, refl, ap, ◌∙◌, subst, inl, inr, ⊎_elim, arith}
-use Rattle.std.proofs.lemmas.Bool.{ltb-true, lt-ltb, or_left, or_right, or_cases, both_ways}
-use Rattle.bounded.specs.Lists.{listed}
+use Rattle.std.proofs.Common.{◌≡◌, ℕ, ◌<◌, true, ◌⊎◌, is_some, Some, Option, sym, ap, ◌∙◌, subst, inl, inr, ⊎_elim, arith}
+use Rattle.std.proofs.lemmas.Bool.{ltb-true, lt-ltb, or_left, or_right, both_ways}
 use Rattle.layout.specs.declared.drawing.Drawing.{Drawing}
 use Rattle.layout.specs.declared.position.Position.{Position}
 use Rattle.layout.specs.Uses.{UsesSection, UsesSectionInPath}
 use Rattle.walks.specs.Exactly.{In}
 use Rattle.sheets.specs.declared.sheet.RouteSheet.{RouteSheet}
 use Rattle.sheets.specs.declared.sheet.Want.{Want}
-use Rattle.sheets.specs.Lists.{is_wanted, is_used}
-use Rattle.sheets.specs.Reading.{past_the_end, route_count, route_sheet, has_route, want_of, need_of, request_of, use_of, on_path, uses, wanted_by, used_by}
+use Rattle.sheets.specs.Lists.{is_wanted}
+use Rattle.sheets.specs.Reading.{past_the_end, route_count, route_sheet, has_route, want_of, use_of, on_path, uses, wanted_by, used_by}
 use Rattle.sheets.specs.Sheets.{no_sheet, sheets_of}
 use Rattle.plan.specs.Flanks.{route_of}
 use Rattle.plan.specs.Sound.{SoundPlan}

@@ -3,7 +3,6 @@ use Rattle.std.proofs.Common.{◌≡◌, ℕ, ◌<◌, true, false, List, length
 use Rattle.std.proofs.lemmas.Bool.{both_ways, cond-true}
 use Rattle.layout.specs.declared.drawing.Drawing.{Drawing}
 use Rattle.layout.specs.declared.element.Element.{Element}
-use Rattle.layout.specs.declared.kind.Kind.TheVariants as kind
 use Rattle.layout.specs.declared.position.Position.{Position}
 use Rattle.layout.specs.declared.route.Route.{Route}
 use Rattle.layout.specs.Kinds.{is_sectioned, is_signal}

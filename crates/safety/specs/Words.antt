@@ -1,5 +1,5 @@
 -- The words of the law over runs: what stands, what is held, how a route passes its elements, what shields, what is ordered, what shows.
-use Rattle.std.specs.Prelude.{◌≡◌, ℕ, true, ◌≢◌, ◌⊎◌, List, Some, Ok, fold}
+use Rattle.std.specs.Prelude.{◌≡◌, ℕ, true, List, Some, Ok, fold}
 use Rattle.layout.specs.declared.drawing.Drawing.{Drawing}
 use Rattle.layout.specs.declared.element.Element.{Element}
 use Rattle.layout.specs.declared.kind.Kind.TheVariants as kind
@@ -9,7 +9,6 @@ use Rattle.layout.specs.declared.route.Route.{Route}
 use Rattle.layout.specs.Ports.{at}
 use Rattle.layout.specs.Uses.{path_of, way_beyond, Uses, UsesSection, UsesSectionInPath, PassesIn}
 use Rattle.walks.specs.Exactly.{In}
-use Rattle.walks.specs.Walks.{Requested}
 use Rattle.sheets.specs.Sheets.{sheets_of}
 use Rattle.plan.specs.Flanks.{route_of}
 use Rattle.sheetlaws.specs.Routes.{elements_of}

@@ -3,7 +3,7 @@ use Rattle.std.proofs.Common.{◌≡◌, ℕ, ◌<◌, false, List, get_or, sym,
 use Rattle.layout.specs.declared.element.Element.{Element}
 use Rattle.sheets.specs.declared.sheet.ElementSheet.{ElementSheet}
 use Rattle.sheets.specs.Sections.{is_known, known_of}
-use Rattle.sheets.specs.Sheets.{element_sheet, no_element_sheet, element_sheets, sheets_of}
+use Rattle.sheets.specs.Sheets.{element_sheet, no_element_sheet, element_sheets}
 use Rattle.sheetlaws.specs.Routes.{elements_of}
 use Rattle.sheetlaws.specs.Elements.{ElementsExact, KnownExact}
 use Rattle.sheetlaws.proofs.Reading.{by_rule_at}

@@ -1,17 +1,15 @@
 -- The short lists of a sheet have exactly the elements and sections that pass their tests.
-use Rattle.std.proofs.Common.{◌≡◌, ℕ, zero, suc, ◌+◌, ◌<◌, ◌≤◌, min, Bool, true, false, ◌⊎◌, List, [], ◌∷◌, ◌++◌, length, get_or, take, replicate, sym, refl, ap, ◌∙◌, subst, inl, inr, ⊎_elim, arith}
+use Rattle.std.proofs.Common.{◌≡◌, ℕ, zero, suc, ◌<◌, ◌≤◌, min, Bool, true, false, ◌⊎◌, List, [], ◌∷◌, ◌++◌, length, get_or, take, replicate, sym, refl, ap, ◌∙◌, subst, inl, inr, ⊎_elim, arith}
 use lib.ListN.{length-replicate}
 use Rattle.std.proofs.lemmas.List.{get_or_past}
-use Rattle.std.proofs.lemmas.Bool.{cases_eq, cases_lt, cases_Bool, cond-true, cond-false, both_ways, false≢true}
+use Rattle.std.proofs.lemmas.Bool.{cases_eq, cases_lt, cases_Bool, cond-true, cond-false, both_ways}
 use Rattle.bounded.specs.declared.bounded.Bounded.{Bounded}
-use Rattle.bounded.specs.Lists.{listed, blanks, empty_of, pushed}
+use Rattle.bounded.specs.Lists.{listed, blanks, pushed}
 use Rattle.layout.specs.declared.element.Element.{Element}
 use Rattle.layout.specs.declared.route.Route.{Route}
 use Rattle.walks.specs.Exactly.{In}
 use Rattle.sheets.specs.declared.sheet.RouteSheet.{RouteSheet}
-use Rattle.sheets.specs.declared.sheet.SectionUse.{SectionUse}
-use Rattle.sheets.specs.declared.sheet.Want.{Want}
-use Rattle.sheets.specs.Lists.{numbers_where, is_wanted, wanted_in, is_used, used_in}
+use Rattle.sheets.specs.Lists.{numbers_where, is_wanted, is_used}
 use Rattle.sheets.specs.Sections.{section_use, no_use, sections_of}
 use Rattle.sheets.specs.Sheets.{no_sheet, sheet_of}
 use Rattle.sheets.specs.Wants.{want_at, no_want, wants_of}

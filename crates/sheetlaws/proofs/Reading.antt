@@ -10,7 +10,7 @@ use Rattle.layout.specs.declared.route.Route.{Route}
 use Rattle.layout.specs.Drawings.{no_route}
 use Rattle.sheets.specs.declared.sheet.RouteSheet.{RouteSheet}
 use Rattle.sheets.specs.Tables.{by_rule}
-use Rattle.sheets.specs.Sheets.{sheet_of, no_sheet, with_sheets, route_sheets, sheets_of}
+use Rattle.sheets.specs.Sheets.{sheet_of, no_sheet, with_sheets, route_sheets}
 use Rattle.sheetlaws.specs.Routes.{SheetsInOrder}
 
 module _ {X : Type 0} (size : ℕ) (blank : X) (rule : ℕ → X) where

@@ -1,5 +1,5 @@
 -- What is read off the sheets of a plan. A number that names nothing of the plan reads as nothing.
-use Rattle.std.specs.Prelude.{ℕ, Bool, true, false, cond, ◌&&◌, List, [], length, Some, None, Option, nat_lt, slice_index_or}
+use Rattle.std.specs.Prelude.{ℕ, Bool, true, false, cond, List, [], length, Some, None, Option, nat_lt, slice_index_or}
 use Rattle.bounded.specs.Lists.{listed}
 use Rattle.layout.specs.declared.kind.Kind.{Kind}
 use Rattle.layout.specs.declared.kind.Kind.TheVariants as kind

@@ -1,5 +1,5 @@
 -- The sections that a route uses, and those of the plan.
-use Rattle.std.specs.Prelude.{ℕ, Bool, true, false, not, List, length, Some, None, Option, ◌==◌, slice_index}
+use Rattle.std.specs.Prelude.{ℕ, Bool, false, not, List, length, Some, None, Option, ◌==◌, slice_index}
 use Rattle.layout.specs.declared.element.Element.{Element}
 use Rattle.layout.specs.declared.route.Route.{Route}
 use Rattle.layout.specs.Every.{every}

@@ -1,5 +1,5 @@
 -- One entry more of a journal is answered, and what is left comes to the same end.
-use Rattle.std.proofs.Common.{◌≡◌, ℕ, suc, ◌+◌, ◌<◌, ◌≤◌, List, [], ◌∷◌, ◌++◌, length, get_or, take, drop, set, fold, sym, refl, ap, ◌∙◌, subst, append_assoc, append-nil, add-one, arith, take-suc-set}
+use Rattle.std.proofs.Common.{◌≡◌, ℕ, ◌+◌, ◌<◌, ◌≤◌, List, [], ◌∷◌, ◌++◌, length, get_or, take, drop, set, fold, sym, refl, ap, ◌∙◌, append_assoc, append-nil, add-one, arith, take-suc-set}
 use Rattle.std.proofs.lemmas.List.{drop_more, drop_all, drop-set-lt, take_all}
 use Rattle.layout.specs.declared.drawing.Drawing.{Drawing}
 use Rattle.sheets.specs.Sheets.{sheets_of}

@@ -2,7 +2,7 @@ use Rattle.std.proofs.Common.{◌≡◌, ◌<◌, ◌≤◌, length, get_or, Non
 use Rattle.layout.specs.declared.drawing.Drawing.{Drawing}
 use Rattle.sheets.specs.Sheets.{sheets_of}
 use Rattle.acts.specs.declared.act.Act.TheVariants as act
-use Rattle.acts.specs.Situations.{Situation, situation, opened}
+use Rattle.acts.specs.Situations.{situation, opened}
 use Rattle.acts.specs.Acts.{performed}
 use Rattle.plan.specs.declared.plan.Plan.{Plan}
 use Rattle.plan.proofs.PlansExact.{checks_exact}
