@@ -31,7 +31,7 @@ use Rattle.runlaws.specs.Lawful as over
 use Rattle.runlaws.specs.SheetLaw as sheet
 use Rattle.runlaws.proofs.Coherent.{Coherent}
 use Rattle.runlaws.proofs.Runs.{starts_one, run_coherent, law_holds}
-use Rattle.safety.specs.Words.{run, Standing, Excused, Moved, point as moved-point, derailer as moved-derailer, Shielding, reported, burning}
+use Rattle.safety.specs.Words.{run, Standing, Excused, Moved, point as moved_point, derailer as moved_derailer, Shielding, reported, burning}
 use Rattle.safety.specs.Law.{Apart, Guarded, Safe, Law}
 use Rattle.safety.proofs.PlanLawful.{same_sheet, route_known, path_told, use_told, first_told, plan_lawful}
 use Rattle.safety.proofs.Passed.{used_passed, moved_moves, used_low, kind_told, need_told}
@@ -79,9 +79,9 @@ module _ (d : Drawing) (sound : SoundPlan d) where
         here k i = sym (ap (λ (n : ℕ). (at (elements_of d) n).kind) q.is) ∙ i
 
         go : {p : Position} → Able (elements_of d) (route_of d a) q.at_port p → (Moved (elements_of d) e) ⊎ ((at (elements_of d) e).kind ≡ kind.Signal)
-        go (derailer i) = inl (moved-derailer (here kind.Derailer i))
+        go (derailer i) = inl (moved_derailer (here kind.Derailer i))
         go (signal i m f) = inr (here kind.Signal i)
-        go (point p i f g b) = inl (moved-point (here kind.Point i))
+        go (point p i f g b) = inl (moved_point (here kind.Point i))
 
     pub guarded : Guarded d s a
     guarded = record {

@@ -3,7 +3,6 @@
 ghost use Rattle.std.specs.Prelude.{◌≡◌};
 ghost use Rattle.field.specs.Meaning.{device_of, fresh_meaning};
 ghost use Rattle.tablefield.specs.Table.{table_meaning};
-ghost use Rattle.std.proofs.Common.{rules, arith};
 
 use crate::table::TableField;
 use field::device::{Device, blank_device, unknown_device};
@@ -47,7 +46,7 @@ impl TableField {
 impl Field for TableField {
     ghost meaning = { table_meaning };
 
-    ghost sized = { first_of (Prim.search rules, Prim.grind (arith, Self.row.coded.inj)) };
+    ghost sized = { λ f. f.sized };
 
     fn report(&self, element: u8) -> Option<Position> {
         self.device(element).report
