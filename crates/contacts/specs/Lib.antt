@@ -1,4 +1,3 @@
 pub mod Bytes
 pub mod Picture
-pub mod Pictures
-pub mod Counted
+pub mod Sized

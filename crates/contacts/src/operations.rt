@@ -4,7 +4,7 @@ ghost use Rattle.std.specs.Prelude.{◌≡◌};
 ghost use Rattle.field.specs.Meaning.{device_of, report_of, blocked_of, burning_of, order_of, occupied_of, ordered, told_report, told_block, told_lamp, told_occupation};
 ghost use Rattle.contacts.specs.Bytes.{report_put, block_put, lamp_put, byte_ordered};
 ghost use Rattle.contacts.specs.Picture.{picture_meaning, device_read, report_read, blocked_read, burning_read, order_read, occupied_read, with_byte, with_section};
-ghost use Rattle.contacts.specs.Pictures.{length-devices, length-sections};
+ghost use Rattle.contacts.specs.Sized.{length-devices, length-sections};
 
 use crate::byte::{device_in, ordered_byte, with_block, with_lamp, with_report};
 use crate::picture::ContactPicture;

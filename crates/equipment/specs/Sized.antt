@@ -2,7 +2,7 @@
 use Rattle.field.specs.Meaning.{Sized}
 use Rattle.tablefield.specs.declared.table.TableField.{TableField}
 use Rattle.contacts.specs.declared.picture.ContactPicture.{ContactPicture}
-use Rattle.contacts.specs.Pictures.{length-devices, length-sections}
+use Rattle.contacts.specs.Sized.{length-devices, length-sections}
 use Rattle.equipment.specs.declared.equipment.Form.{Form}
 use Rattle.equipment.specs.declared.equipment.Form.TheVariants.{Table, Contacts}
 use Rattle.equipment.specs.Equipment.{form_meaning}

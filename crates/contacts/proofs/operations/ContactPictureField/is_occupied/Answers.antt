@@ -1,6 +1,6 @@
 -- A section is occupied as its bit says.
 use Rattle.std.proofs.Common.{false, rules}
-use Rattle.contacts.specs.Pictures.{section_at}
+use Rattle.contacts.proofs.Pictures.{section_at}
 use Rattle.contacts.proofs.operations.ContactPictureField.is_occupied.Goals as goal
 
 pub returns-then-section-lt64 : goal.returns-then-section-lt64

@@ -3,7 +3,7 @@ use Rattle.std.proofs.Common.{get_or, ap, ◌∙◌, rules}
 use Rattle.field.specs.Devices.{device_ordered}
 use Rattle.contacts.specs.Bytes.{device_in}
 use Rattle.contacts.proofs.Decoded.{order_taken}
-use Rattle.contacts.specs.Pictures.{element_written}
+use Rattle.contacts.proofs.Pictures.{element_written}
 use Rattle.contacts.proofs.operations.ContactPictureField.order.Goals as goal
 
 pub returns-then-element-lt96 : goal.returns-then-element-lt96

@@ -1,6 +1,6 @@
 -- The bit of a section is written, and its occupation is told.
 use Rattle.std.proofs.Common.{rules}
-use Rattle.contacts.specs.Pictures.{section_written}
+use Rattle.contacts.proofs.Pictures.{section_written}
 use Rattle.contacts.proofs.operations.ContactPictureField.tell_occupation.Goals as goal
 
 pub returns-then-section-lt64 : goal.returns-then-section-lt64

@@ -1,7 +1,7 @@
 -- What the bytes of a contact picture mean, and what they mean after one of them is written.
 use Rattle.std.specs.Prelude.{◌≡◌, ℕ, ◌+◌, ◌/◌, ◌%◌, ◌<◌, ◌≤◌, Bool, ◌≢◌, List, length, get_or, set, ◌==◌, slice_index, slice_index_or, slice_set, refl}
 use Rattle.std.proofs.Common.{sym, ap, ◌∙◌, inl, inr, arith}
-use Rattle.std.proofs.lemmas.List.FromFn.{length-map-range_with_len, get_or-map-range_with_len}
+use Rattle.std.proofs.lemmas.List.FromFn.{get_or-map-range_with_len}
 use Rattle.std.proofs.lemmas.List.{get_or-set_same, get_or-set_other}
 use Rattle.std.proofs.lemmas.Bool.{lt-ltb, eq-eqb, ne_eqb, cond-true, cond-false, cases_eq}
 use Rattle.bits.specs.Bits.{bit, with_bit}
@@ -11,15 +11,7 @@ use Rattle.field.specs.Devices.{blank}
 use Rattle.field.specs.Meaning.{with_device, told_occupation}
 use Rattle.contacts.specs.Bytes.{device_in}
 use Rattle.contacts.specs.Picture.{devices_in, sections_in, section_in, bytes_mean, with_section}
-use Rattle.contacts.specs.Counted.{same_counted, set_counted}
-
-pub length-devices : (bytes : List ℕ) → length (devices_in bytes) ≡ 96
-unfolding devices_in
-length-devices bytes = length-map-range_with_len (λ e. device_in (slice_index bytes e)) 0 96
-
-pub length-sections : (bytes : List ℕ) → length (sections_in bytes) ≡ 64
-unfolding sections_in
-length-sections bytes = length-map-range_with_len (section_in bytes) 0 64
+use Rattle.contacts.proofs.Counted.{same_counted, set_counted}
 
 pub device_at : (bytes : List ℕ) (e : ℕ) (d : Device) → e < 96 → slice_index_or (devices_in bytes) e d ≡ device_in (slice_index bytes e)
 unfolding devices_in
