@@ -27,8 +27,7 @@ impl<T: Copy, const N: usize> Bounded<T, N> {
     pub fn as_slice(&self) -> &[T]
         ensures { result.now ≡ listed self.now }
     {
-        let places = &self.places[..];
-        &places[0..self.count.min(N)]
+        &self.places[..self.count.min(N)]
     }
 
     /// Adds an item at the end; answers false, and changes nothing, where the list is full.

@@ -3,7 +3,7 @@
 use crate::kind::{Dual, Kind, Marks, Sort};
 
 /// A port of an element, as the far end of a join.
-#[derive(Clone, Copy)]
+#[derive(Clone, Copy, PartialEq, Eq)]
 pub struct Join {
     pub element: u8,
     pub port: u8,

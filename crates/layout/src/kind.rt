@@ -5,7 +5,7 @@ ghost use Rattle.layout.specs.Numbers.{kind_of, dual_of, sort_of, marks_of};
 ghost use Rattle.layout.specs.Kinds.{ports, is_sectioned, is_point, is_signal};
 
 /// What an element is.
-#[derive(Clone, Copy)]
+#[derive(Clone, Copy, PartialEq, Eq)]
 pub enum Kind {
     /// A section without points, or a parking line.
     Track,
@@ -15,11 +15,11 @@ pub enum Kind {
     PlanEnd,
 }
 
-impl Kind {
-    /// The kind with a number.
-    pub fn of(number: u8) -> Kind
-        ensures { result ≡ kind_of number }
-    {
+/// The kind with a number; the last one where no kind has it.
+impl From<u8> for Kind {
+    ghost from_gives = { λ number kind. kind ≡ kind_of number };
+
+    fn from(number: u8) -> Kind {
         match number {
             0 => Kind::Track,
             1 => Kind::Point,
@@ -28,7 +28,9 @@ impl Kind {
             _ => Kind::PlanEnd,
         }
     }
+}
 
+impl Kind {
     /// How many ports an element of the kind has.
     pub fn port_count(self) -> u8
         ensures { result ≡ ports self }
@@ -44,44 +46,35 @@ impl Kind {
     pub fn has_section(self) -> bool
         ensures { result ≡ is_sectioned self }
     {
-        match self {
-            Kind::Track | Kind::Point | Kind::Derailer => true,
-            Kind::Signal | Kind::PlanEnd => false,
-        }
+        matches!(self, Kind::Track | Kind::Point | Kind::Derailer)
     }
 
     pub fn is_point(self) -> bool
         ensures { result ≡ is_point self }
     {
-        match self {
-            Kind::Point => true,
-            Kind::Track | Kind::Derailer | Kind::Signal | Kind::PlanEnd => false,
-        }
+        self == Kind::Point
     }
 
     pub fn is_signal(self) -> bool
         ensures { result ≡ is_signal self }
     {
-        match self {
-            Kind::Signal => true,
-            Kind::Track | Kind::Point | Kind::Derailer | Kind::PlanEnd => false,
-        }
+        self == Kind::Signal
     }
 }
 
 /// The position that a point with the dual field prefers: it may shield in that one only.
-#[derive(Clone, Copy)]
+#[derive(Clone, Copy, PartialEq, Eq)]
 pub enum Dual {
     NoPreference,
     PrefersPlus,
     PrefersMinus,
 }
 
-impl Dual {
-    /// The preference with a number.
-    pub fn of(number: u8) -> Dual
-        ensures { result ≡ dual_of number }
-    {
+/// The preference with a number; the last one where none has it.
+impl From<u8> for Dual {
+    ghost from_gives = { λ number dual. dual ≡ dual_of number };
+
+    fn from(number: u8) -> Dual {
         match number {
             0 => Dual::NoPreference,
             1 => Dual::PrefersPlus,
@@ -91,18 +84,18 @@ impl Dual {
 }
 
 /// What a signal is for.
-#[derive(Clone, Copy)]
+#[derive(Clone, Copy, PartialEq, Eq)]
 pub enum Sort {
     Shunting,
     Train,
     Entry,
 }
 
-impl Sort {
-    /// The sort with a number.
-    pub fn of(number: u8) -> Sort
-        ensures { result ≡ sort_of number }
-    {
+/// The sort with a number; the last one where none has it.
+impl From<u8> for Sort {
+    ghost from_gives = { λ number sort. sort ≡ sort_of number };
+
+    fn from(number: u8) -> Sort {
         match number {
             0 => Sort::Shunting,
             1 => Sort::Train,
@@ -112,7 +105,7 @@ impl Sort {
 }
 
 /// The marks of a signal.
-#[derive(Clone, Copy)]
+#[derive(Clone, Copy, PartialEq, Eq)]
 pub struct Marks {
     /// The signal is requested at a flank.
     pub requested: bool,
@@ -120,11 +113,11 @@ pub struct Marks {
     pub lamp_spared: bool,
 }
 
-impl Marks {
-    /// The marks with a number, their sum.
-    pub fn of(number: u8) -> Marks
-        ensures { result ≡ marks_of number }
-    {
+/// The marks with a number, their sum.
+impl From<u8> for Marks {
+    ghost from_gives = { λ number marks. marks ≡ marks_of number };
+
+    fn from(number: u8) -> Marks {
         Marks {
             requested: number % 2 == 1,
             lamp_spared: number / 2 % 2 == 1,

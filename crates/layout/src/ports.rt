@@ -10,11 +10,7 @@ use crate::element::{Element, Join};
 pub fn element_at(elements: &[Element], number: usize) -> Element
     ensures { result ≡ at elements.now number }
 {
-    if number < elements.len() {
-        elements[number]
-    } else {
-        blank_element()
-    }
+    elements.get(number).copied().unwrap_or(blank_element())
 }
 
 impl Element {
@@ -22,10 +18,6 @@ impl Element {
     pub fn join(&self, port: u8) -> Option<Join>
         ensures { result ≡ join_of self.now port }
     {
-        if port < 3 {
-            self.joins[port as usize]
-        } else {
-            None
-        }
+        *self.joins.get(port as usize)?
     }
 }

@@ -6,8 +6,8 @@ ghost use Rattle.layout.specs.Numbers.{position_number};
 /// Plus for a point, on for a derailer, kept at stop for a signal; or minus, off, in use as a start.
 #[derive(Clone, Copy, PartialEq, Eq)]
 pub enum Position {
-    Plus,
-    Minus,
+    Plus = 0,
+    Minus = 1,
 }
 
 impl Position {
@@ -15,9 +15,6 @@ impl Position {
     pub fn number(self) -> u8
         ensures { result ≡ position_number self }
     {
-        match self {
-            Position::Plus => 0,
-            Position::Minus => 1,
-        }
+        self as u8
     }
 }

@@ -2,22 +2,22 @@
 
 ghost use Rattle.std.specs.Prelude.{◌≡◌};
 ghost use Rattle.layout.specs.Numbers.{class_of};
-ghost use Rattle.layout.specs.Uses.{path_of, overlap_of};
+ghost use Rattle.layout.specs.Uses.{numbers, path_of, overlap_of};
 
 use bounded::bounded::Bounded;
 
 /// What a route is for.
-#[derive(Clone, Copy)]
+#[derive(Clone, Copy, PartialEq, Eq)]
 pub enum RouteClass {
     Shunting,
     Train,
 }
 
-impl RouteClass {
-    /// The class with a number.
-    pub fn of(number: u8) -> RouteClass
-        ensures { result ≡ class_of number }
-    {
+/// The class with a number; the last one where no class has it.
+impl From<u8> for RouteClass {
+    ghost from_gives = { λ number class. class ≡ class_of number };
+
+    fn from(number: u8) -> RouteClass {
         match number {
             0 => RouteClass::Shunting,
             _ => RouteClass::Train,
@@ -34,24 +34,28 @@ pub struct Route {
     pub zero_overlap: bool,
 }
 
+/// The numbers of a list in order, none where there is no list.
+fn numbers<const N: usize>(list: &Option<Bounded<u8, N>>) -> &[u8]
+    ensures { result.now ≡ numbers list.now }
+{
+    match list {
+        Some(list) => list.as_slice(),
+        None => &[],
+    }
+}
+
 impl Route {
     /// The elements of the path in order, none where there is no path.
     pub fn path_elements(&self) -> &[u8]
         ensures { result.now ≡ path_of self.now }
     {
-        match &self.path {
-            Some(path) => path.as_slice(),
-            None => &[],
-        }
+        numbers(&self.path)
     }
 
     /// The elements of the overlap in order, none where there is no overlap.
     pub fn overlap_elements(&self) -> &[u8]
         ensures { result.now ≡ overlap_of self.now }
     {
-        match &self.overlap {
-            Some(overlap) => overlap.as_slice(),
-            None => &[],
-        }
+        numbers(&self.overlap)
     }
 }

@@ -6,10 +6,7 @@ ghost use Rattle.std.specs.Prelude.{◌≡◌, slice_index_or, slice_set};
 pub fn at_or<T: Copy>(table: &[T], place: usize, blank: T) -> T
     ensures { result ≡ slice_index_or table.now place blank }
 {
-    if place >= table.len() {
-        return blank;
-    }
-    table[place]
+    table.get(place).copied().unwrap_or(blank)
 }
 
 /// Writes an item at a place, if the table has that place.
