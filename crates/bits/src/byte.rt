@@ -27,11 +27,7 @@ fn cleared(byte: u8, weight: u8) -> u8
 pub fn has_bit(byte: u8, place: u8) -> bool
     ensures { result ≡ bit byte place }
 {
-    if place < 8 {
-        is_odd(byte >> place)
-    } else {
-        false
-    }
+    place < 8 && is_odd(byte >> place)
 }
 
 /// The byte with one bit made 1 or 0, and every other bit as it was.

@@ -1,7 +1,8 @@
 //! The byte of one element.
 
 ghost use Rattle.std.specs.Prelude.{◌≡◌};
-ghost use Rattle.contacts.specs.Bytes.{report_in, order_in, device_in, plus_contact, minus_contact, order_code, report_put, block_put, lamp_put, order_put, byte_ordered};
+ghost use Rattle.bits.specs.Bits.{bit};
+ghost use Rattle.contacts.specs.Bytes.{report_shown, report_in, order_in, device_in, plus_contact, minus_contact, order_code, report_put, block_put, lamp_put, order_put, byte_ordered};
 
 use bits::byte::{has_bit, with_bit};
 use field::device::Device;
@@ -20,26 +21,29 @@ const ORDER_LOW: u8 = 4;
 
 const ORDER_HIGH: u8 = 5;
 
-/// What the two contacts report.
-fn report_in(byte: u8) -> Option<Position>
-    ensures { result ≡ report_in byte }
+/// The position that one of two bits shows alone.
+fn position_in(byte: u8, plus: u8, minus: u8) -> Option<Position>
+    ensures { result ≡ report_shown (bit byte plus) (bit byte minus) }
 {
-    match (has_bit(byte, PLUS_CONTACT), has_bit(byte, MINUS_CONTACT)) {
+    match (has_bit(byte, plus), has_bit(byte, minus)) {
         (true, false) => Some(Position::Plus),
         (false, true) => Some(Position::Minus),
         _ => None,
     }
 }
 
+/// What the two contacts report.
+fn report_in(byte: u8) -> Option<Position>
+    ensures { result ≡ report_in byte }
+{
+    position_in(byte, PLUS_CONTACT, MINUS_CONTACT)
+}
+
 /// The standing order in the two order bits.
 fn order_in(byte: u8) -> Option<Position>
     ensures { result ≡ order_in byte }
 {
-    match (has_bit(byte, ORDER_LOW), has_bit(byte, ORDER_HIGH)) {
-        (true, false) => Some(Position::Plus),
-        (false, true) => Some(Position::Minus),
-        _ => None,
-    }
+    position_in(byte, ORDER_LOW, ORDER_HIGH)
 }
 
 /// What the bits say; the two highest are not read.

@@ -6,7 +6,7 @@ ghost use Rattle.field.specs.Devices.{blank, unknown};
 use layout::position::Position;
 
 /// All that a field means for one element.
-#[derive(Clone, Copy)]
+#[derive(Clone, Copy, PartialEq, Eq)]
 pub struct Device {
     /// The position in which the element is proved to lie; none is no control.
     pub report: Option<Position>,
@@ -34,9 +34,7 @@ pub fn unknown_device() -> Device
     ensures { result ≡ unknown }
 {
     Device {
-        report: None,
         blocked: true,
-        burning: false,
-        order: None,
+        ..blank_device()
     }
 }

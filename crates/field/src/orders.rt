@@ -10,10 +10,7 @@ use layout::position::Position;
 pub fn report_after_order(report: Option<Position>, position: Position) -> Option<Position>
     ensures { result ≡ report_after report position }
 {
-    match (report, position) {
-        (Some(Position::Plus), Position::Plus) | (Some(Position::Minus), Position::Minus) => report,
-        _ => None,
-    }
+    report.filter(|reported| *reported == position)
 }
 
 /// Carries the laws of orders, which hold of every field; there is nothing to run.

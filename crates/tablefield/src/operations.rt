@@ -35,11 +35,10 @@ impl TableField {
     fn device(&self, element: u8) -> Device
         ensures { result ≡ device_of (table_meaning self.now) element }
     {
-        if element < 96 {
-            self.devices[element as usize]
-        } else {
-            unknown_device()
-        }
+        self.devices
+            .get(element as usize)
+            .copied()
+            .unwrap_or(unknown_device())
     }
 }
 
@@ -65,11 +64,7 @@ impl Field for TableField {
     }
 
     fn is_occupied(&self, section: u8) -> bool {
-        if section < 64 {
-            self.sections[section as usize]
-        } else {
-            true
-        }
+        self.sections.get(section as usize).copied().unwrap_or(true)
     }
 
     fn order(&mut self, element: u8, position: Position) {
