@@ -1,3 +1,4 @@
+pub mod EveryList
 pub mod EveryTurn
 pub mod JoinPorts
 pub mod KindTests

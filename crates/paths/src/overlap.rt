@@ -13,16 +13,14 @@ use layout::route::{Route, RouteClass};
 fn is_sound_overlap(elements: &[Element], path: &[u8], overlap: &[u8]) -> bool
     ensures { result ≡ is_overlap elements.now path.now overlap.now }
 {
-    if path.len() == 0 || overlap.len() == 0 {
+    let (Some(last), Some(far)) = (path.last(), overlap.last()) else {
         return false;
-    }
-    let last = path[path.len() - 1];
-    let far = overlap[overlap.len() - 1];
-    element_at(elements, last as usize).kind.is_signal()
+    };
+    element_at(elements, *last as usize).kind.is_signal()
         && all_within(elements, overlap)
         && all_new(path, overlap)
-        && follow(elements, last, overlap).is_some()
-        && !element_at(elements, far as usize).kind.is_point()
+        && follow(elements, *last, overlap).is_some()
+        && !element_at(elements, *far as usize).kind.is_point()
 }
 
 /// Whether a route has no overlap, a sound one or a zero overlap, as its class allows.

@@ -14,11 +14,11 @@ use layout::route::{Route, RouteClass};
 fn may_start(class: RouteClass, sort: Option<Sort>) -> bool
     ensures { result ≡ may_start class sort }
 {
-    match (class, sort) {
-        (RouteClass::Train, Some(Sort::Train | Sort::Entry)) => true,
-        (RouteClass::Shunting, Some(Sort::Shunting | Sort::Train)) => true,
-        _ => false,
-    }
+    matches!(
+        (class, sort),
+        (RouteClass::Train, Some(Sort::Train | Sort::Entry))
+            | (RouteClass::Shunting, Some(Sort::Shunting | Sort::Train))
+    )
 }
 
 /// Whether an element is a signal at which a route of a class may start.
@@ -46,10 +46,7 @@ fn ends_soundly(elements: &[Element], path: &[u8]) -> bool
     ensures { result ≡ is_end elements.now path.now }
 {
     let last = element_at(elements, path[path.len() - 1] as usize);
-    match follow(elements, path[0], &path[1..]) {
-        Some(entered) => may_end(last.kind, entered),
-        None => false,
-    }
+    follow(elements, path[0], &path[1..]).is_some_and(|entered| may_end(last.kind, entered))
 }
 
 /// Whether elements in a row are a sound path for a route of a class.
@@ -68,8 +65,5 @@ fn is_sound_path(elements: &[Element], class: RouteClass, path: &[u8]) -> bool
 pub fn has_sound_path(elements: &[Element], route: &Route) -> bool
     ensures { result ≡ has_path elements.now route.now }
 {
-    match &route.path {
-        Some(path) => is_sound_path(elements, route.class, path.as_slice()),
-        None => false,
-    }
+    route.path.as_ref().is_some_and(|path| is_sound_path(elements, route.class, path.as_slice()))
 }

@@ -11,36 +11,22 @@ fn lack(numbers: &[u8], count: usize, number: u8) -> bool
     requires { count ≤ length numbers.now }
     ensures { result ≡ lacks numbers.now count number }
 {
-    for i in 0..count {
-        if numbers[i] == number {
-            return false;
-        }
-    }
-    true
+    !numbers[..count].contains(&number)
 }
 
 /// Whether all numbers of a way are elements of the drawing.
 pub(crate) fn all_within(elements: &[Element], way: &[u8]) -> bool
     ensures { result ≡ are_within elements.now way.now }
 {
-    for i in 0..way.len() {
-        if way[i] as usize >= elements.len() {
-            return false;
-        }
-    }
-    true
+    way.iter().all(|number| (*number as usize) < elements.len())
 }
 
 /// Whether no number of a way stands earlier in it or in the way before it.
 pub(crate) fn all_new(before: &[u8], way: &[u8]) -> bool
     ensures { result ≡ are_new before.now way.now }
 {
-    for i in 0..way.len() {
-        if !(lack(before, before.len(), way[i]) && lack(way, i, way[i])) {
-            return false;
-        }
-    }
-    true
+    way.iter().enumerate().all(|(place, number)| lack(before, before.len(), *number)
+        && lack(way, place, *number))
 }
 
 /// Whether all elements between the first and the last of a way are signals.
@@ -48,10 +34,7 @@ pub(crate) fn all_signals_between(elements: &[Element], way: &[u8]) -> bool
     requires { 2 ≤ length way.now }
     ensures { result ≡ are_signals_between elements.now way.now }
 {
-    for i in 0..way.len() - 2 {
-        if !element_at(elements, way[i + 1] as usize).kind.is_signal() {
-            return false;
-        }
-    }
-    true
+    way[1..way.len() - 1].iter().all(|number| element_at(elements, *number as usize)
+        .kind
+        .is_signal())
 }

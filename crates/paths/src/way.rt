@@ -19,16 +19,10 @@ fn exit_by(elements: &[Element], from: u8, entered: u8, next: u8, left: u8) -> O
     ensures { result ≡ exit elements.now from entered next left }
 {
     let element = element_at(elements, from as usize);
-    match element.join(left) {
-        Some(join) => {
-            if join.element == next && may_turn(element.kind, entered, left) {
-                Some(join.port)
-            } else {
-                None
-            }
-        }
-        None => None,
-    }
+    element
+        .join(left)
+        .filter(|join| join.element == next && may_turn(element.kind, entered, left))
+        .map(|join| join.port)
 }
 
 /// Where the next element is entered from an element that was entered at a port.
@@ -46,9 +40,9 @@ pub(crate) fn follow(elements: &[Element], first: u8, rest: &[u8]) -> Option<u8>
 {
     let mut from = first;
     let mut entered = 0;
-    for i in 0..rest.len() {
-        entered = step_to(elements, from, entered, rest[i])?;
-        from = rest[i];
+    for next in rest {
+        entered = step_to(elements, from, entered, *next)?;
+        from = *next;
     }
     Some(entered)
 }

@@ -1,18 +1,16 @@
-use Rattle.std.proofs.Common.{rules}
-use Rattle.layout.proofs.EveryTurn.{every_none, every_more, every_all}
-use Rattle.paths.specs.Places.{are_new}
+use Rattle.std.proofs.Common.{ℕ, ◌&&◌, length, sym, ◌∙◌, rules, tests, arith}
+use Rattle.std.proofs.lemmas.Iterator.{YieldsList-from_slice}
+use Rattle.std.proofs.lemmas.Iterator.Consumers.{YieldsList-from_enumerate}
+use Rattle.std.proofs.lemmas.Iterator.Search.{all_from_yields_List}
+use Rattle.layout.proofs.EveryList.{every_numbered}
+use Rattle.paths.specs.Places.{lacks, are_new}
 use Rattle.paths.proofs.places.all_new.Goals as goal
-
-pub loop-i-init : goal.loop-i-init
-loop-i-init c = search (rules, every_none)
-
-pub loop-i-preserved : goal.loop-i-preserved
-loop-i-preserved c = search (rules, every_more)
-
-pub returns-then-not-lack : goal.returns-then-not-lack
-unfolding are_new
-returns-then-not-lack c = search (rules, every_more)
 
 pub returns : goal.returns
 unfolding are_new
-returns c = search (rules, every_all)
+returns c =
+    let before = c.args.before.now in
+    let way = c.args.way.now in
+    let is_new_here = λ (p : ℕ × ℕ). lacks before (length before) p.1 && lacks way p.0 p.1 in
+    all_from_yields_List is_new_here _ _ _ c.all.ensures.ran (YieldsList-from_enumerate (YieldsList-from_slice way (cc)) (cc)) (λ x b q k. search (rules, tests))
+    ∙ sym (every_numbered is_new_here way 0 (length way) 0 (omega arith))

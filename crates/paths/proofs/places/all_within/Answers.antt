@@ -1,18 +1,13 @@
-use Rattle.std.proofs.Common.{rules}
-use Rattle.layout.proofs.EveryTurn.{every_none, every_more, every_all}
+use Rattle.std.proofs.Common.{ℕ, nat_lt, length, sym, ◌∙◌, rules, tests}
+use Rattle.std.proofs.lemmas.Iterator.{YieldsList-from_slice}
+use Rattle.std.proofs.lemmas.Iterator.Search.{all_from_yields_List}
+use Rattle.layout.proofs.EveryList.{every_item}
 use Rattle.paths.specs.Places.{are_within}
 use Rattle.paths.proofs.places.all_within.Goals as goal
 
-pub loop-i-init : goal.loop-i-init
-loop-i-init c = search (rules, every_none)
-
-pub loop-i-preserved : goal.loop-i-preserved
-loop-i-preserved c = search (rules, every_more)
-
-pub returns-then-way-i : goal.returns-then-way-i
-unfolding are_within
-returns-then-way-i c = search (rules, every_more)
-
 pub returns : goal.returns
 unfolding are_within
-returns c = search (rules, every_all)
+returns c =
+    let within = λ (number : ℕ). nat_lt number (length c.args.elements.now) in
+    all_from_yields_List within _ _ _ c.all.ensures.ran (YieldsList-from_slice c.args.way.now cc) (λ x b q k. search (rules, tests))
+    ∙ sym (every_item within c.args.way.now 0)

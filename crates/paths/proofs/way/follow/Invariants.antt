@@ -2,5 +2,5 @@ use Rattle.std.proofs.Common.{◌≡◌, drop}
 use Rattle.paths.specs.Following.{follows}
 use Rattle.paths.proofs.way.follow.Given as goal
 
-abbrev pub invariant-loop-i : goal.invariant-loop-i
-invariant-loop-i l = follows l.elements l.first 0 l.rest ≡ follows l.elements l.from l.entered (drop l.i l.rest)
+abbrev pub invariant-loop-next : goal.invariant-loop-next
+invariant-loop-next l = follows l.elements l.first 0 l.rest ≡ follows l.elements l.from l.entered (drop l.next-index l.rest)

@@ -1,0 +1,42 @@
+-- A test of the numbers in a row that reads a list at each number is a test of the items of the list.
+use Rattle.std.proofs.Common.{◌≡◌, ℕ, zero, suc, ◌+◌, ◌≤◌, Bool, true, false, not, ◌&&◌, ◌||◌, List, [], ◌∷◌, length, take, drop, get_or, refl, ap, ◌∙◌, arith}
+use Rattle.std.proofs.lemmas.List.{drop_more}
+use Rattle.std.proofs.Math.Seq.{take-length}
+use Rattle.std.proofs.Math.ListN.{drop_of_length-le}
+use Rattle.std.specs.List.{list_all, list_any, enumerate_from}
+use Rattle.layout.specs.Every.{every}
+
+-- the numbers from i on read n items
+pub every_items : {X : Type 0} (test : X → Bool) (xs : List X) (d : X) (n i : ℕ) → i + n ≤ length xs
+    → every (λ k. test (get_or xs k d)) n i ≡ list_all test (take n (drop i xs))
+every_items test xs d zero i h = refl
+every_items test xs d (suc n) i h =
+    let more : drop i xs ≡ get_or xs i d ∷ drop (i + 1) xs = drop_more xs i d (omega arith) in
+    rw more (ap (λ b. test (get_or xs i d) && b) (every_items test xs d n (i + 1) (omega arith)))
+
+-- the numbers of all items
+pub every_item : {X : Type 0} (test : X → Bool) (xs : List X) (d : X) → every (λ k. test (get_or xs k d)) (length xs) 0 ≡ list_all test xs
+every_item test xs d = every_items test xs d (length xs) 0 (omega arith) ∙ ap (list_all test) (take-length xs)
+
+-- the numbers of all items, where the test reads the number too
+pub every_numbered : {X : Type 0} (test : ℕ × X → Bool) (xs : List X) (d : X) (n i : ℕ) → i + n ≡ length xs
+    → every (λ k. test (k, get_or xs k d)) n i ≡ list_all test (enumerate_from i (drop i xs))
+every_numbered test xs d zero i h =
+    let none : drop i xs ≡ [] = drop_of_length-le xs (omega (arith, h)) in rw none refl
+every_numbered test xs d (suc n) i h =
+    let more : drop i xs ≡ get_or xs i d ∷ drop (i + 1) xs = drop_more xs i d (omega (arith, h)) in
+    rw more (ap (λ b. test (i, get_or xs i d) && b) (every_numbered test xs d n (i + 1) (omega (arith, h))))
+
+-- the numbers one further on
+pub every_next : (test : ℕ → Bool) (n i : ℕ) → every (λ k. test (k + 1)) n i ≡ every test n (i + 1)
+every_next test zero i = refl
+every_next test (suc n) i = ap (λ b. test (i + 1) && b) (every_next test n (i + 1))
+
+not_or : (a b : Bool) → not (a || b) ≡ not a && not b
+not_or true b = refl
+not_or false b = refl
+
+-- no item passes
+pub not_any : {X : Type 0} (test : X → Bool) (xs : List X) → not (list_any test xs) ≡ list_all (λ x. not (test x)) xs
+not_any test [] = refl
+not_any test (x ∷ xs) = not_or (test x) (list_any test xs) ∙ ap (λ b. not (test x) && b) (not_any test xs)
