@@ -3,7 +3,7 @@ use Rattle.std.proofs.Common.{◌≡◌, ℕ, zero, suc, ◌+◌, ◌≤◌, Boo
 use Rattle.std.proofs.lemmas.List.{drop_more}
 use Rattle.std.proofs.Math.Seq.{take-length}
 use Rattle.std.proofs.Math.ListN.{drop_of_length-le}
-use Rattle.std.specs.List.{list_all, list_any, enumerate_from}
+use Rattle.std.specs.List.{list_all, list_any, enumerate_from, range_with_len}
 use Rattle.layout.specs.Every.{every}
 
 -- the numbers from i on read n items
@@ -40,3 +40,17 @@ not_or false b = refl
 pub not_any : {X : Type 0} (test : X → Bool) (xs : List X) → not (list_any test xs) ≡ list_all (λ x. not (test x)) xs
 not_any test [] = refl
 not_any test (x ∷ xs) = not_or (test x) (list_any test xs) ∙ ap (λ b. not (test x) && b) (not_any test xs)
+
+not_and : (a b : Bool) → a || not b ≡ not (not a && b)
+not_and true b = refl
+not_and false b = refl
+
+-- some item passes
+pub any_not : {X : Type 0} (test : X → Bool) (xs : List X) → list_any test xs ≡ not (list_all (λ x. not (test x)) xs)
+any_not test [] = refl
+any_not test (x ∷ xs) = ap (λ b. test x || b) (any_not test xs) ∙ not_and (test x) (list_all (λ y. not (test y)) xs)
+
+-- the numbers themselves
+pub every_number : (test : ℕ → Bool) (n i : ℕ) → every test n i ≡ list_all test (range_with_len i n)
+every_number test zero i = refl
+every_number test (suc n) i = ap (λ b. test i && b) (every_number test n (i + 1))

@@ -2,7 +2,7 @@
 
 ghost use Rattle.std.specs.Prelude.{◌≡◌};
 ghost use Rattle.planbytes.specs.Bytes.{fault_in};
-ghost use Rattle.plan.specs.Checks.{cause_of, meets, element_fault, elements_fault, route_fault, routes_fault, drawing_fault};
+ghost use Rattle.plan.specs.Checks.{unmet, cause_of, meets, element_fault, elements_fault, route_fault, routes_fault, drawing_fault};
 
 use crate::demand::Demand;
 use crate::fields::{entry_fits, fields_fit};
@@ -40,25 +40,30 @@ impl Demand {
     }
 }
 
+/// The fault of a place at which something is not met.
+fn demanded(met: bool, cause: Cause, place: usize) -> Result<(), Fault>
+    ensures { fault_in result ≡ unmet met cause place }
+{
+    if met {
+        Ok(())
+    } else {
+        Err(Fault { cause, place })
+    }
+}
+
 fn check_element(elements: &[Element], demand: Demand, number: usize) -> Result<(), Fault>
     ensures { fault_in result ≡ element_fault elements.now demand number }
 {
-    if demand.is_met(elements, number) {
-        Ok(())
-    } else {
-        Err(Fault {
-            cause: demand.cause(),
-            place: number,
-        })
-    }
+    demanded(demand.is_met(elements, number), demand.cause(), number)
 }
 
 /// One demand over all elements in turn.
 fn check_elements(elements: &[Element], demand: Demand) -> Result<(), Fault>
     ensures { fault_in result ≡ elements_fault elements.now demand }
 {
-    for i in 0..elements.len() {
-        check_element(elements, demand, i)?;
+    // By number: a join is looked at from both of its ends.
+    for number in 0..elements.len() {
+        check_element(elements, demand, number)?;
     }
     Ok(())
 }
@@ -67,33 +72,17 @@ fn check_elements(elements: &[Element], demand: Demand) -> Result<(), Fault>
 fn check_route(elements: &[Element], route: &Route, number: usize) -> Result<(), Fault>
     ensures { fault_in result ≡ route_fault elements.now route.now number }
 {
-    if !has_sound_path(elements, route) {
-        return Err(Fault {
-            cause: Cause::Path,
-            place: number,
-        });
-    }
-    if !has_allowed_overlap(elements, route) {
-        return Err(Fault {
-            cause: Cause::Overlap,
-            place: number,
-        });
-    }
-    if asks_both_ways(elements, route) {
-        return Err(Fault {
-            cause: Cause::BothWays,
-            place: number,
-        });
-    }
-    Ok(())
+    demanded(has_sound_path(elements, route), Cause::Path, number)?;
+    demanded(has_allowed_overlap(elements, route), Cause::Overlap, number)?;
+    demanded(!asks_both_ways(elements, route), Cause::BothWays, number)
 }
 
 /// All routes in turn.
 fn check_routes(elements: &[Element], routes: &[Route]) -> Result<(), Fault>
     ensures { fault_in result ≡ routes_fault elements.now routes.now }
 {
-    for i in 0..routes.len() {
-        check_route(elements, &routes[i], i)?;
+    for (number, route) in routes.iter().enumerate() {
+        check_route(elements, route, number)?;
     }
     Ok(())
 }

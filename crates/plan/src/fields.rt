@@ -28,18 +28,15 @@ fn needed_fit(element: &Element) -> bool
 fn allowed_fit(element: &Element) -> bool
     ensures { result ≡ are_fields_allowed element.now }
 {
-    (!element.dual.is_some() | element.kind.is_point())
-        & (!element.marks.is_some() | element.kind.is_signal())
+    (element.dual.is_none() || element.kind.is_point())
+        && (element.marks.is_none() || element.kind.is_signal())
 }
 
 /// Whether the section, if there is one, has a number that sections have.
 fn section_fits(section: Option<u8>) -> bool
     ensures { result ≡ is_section_low section }
 {
-    match section {
-        Some(number) => number < 64,
-        None => true,
-    }
+    section.is_none_or(|number| number < 64)
 }
 
 /// Whether an element has the fields of its kind.
@@ -56,8 +53,5 @@ pub(crate) fn fields_fit(element: &Element) -> bool
 pub(crate) fn entry_fits(element: &Element) -> bool
     ensures { result ≡ is_entry_unmarked element.now }
 {
-    match (element.sort, element.marks) {
-        (Some(Sort::Entry), Some(marks)) => !marks.requested,
-        _ => true,
-    }
+    element.sort != Some(Sort::Entry) || element.marks.is_none_or(|marks| !marks.requested)
 }

@@ -10,10 +10,7 @@ use layout::ports::element_at;
 fn goes_to(join: Option<Join>, element: usize, port: u8) -> bool
     ensures { result ≡ leads_to join element port }
 {
-    match join {
-        Some(join) => join.element as usize == element && join.port == port,
-        None => false,
-    }
+    join.is_some_and(|join| join.element as usize == element && join.port == port)
 }
 
 /// Whether a port is not joined, or to a port of another element that is joined back.

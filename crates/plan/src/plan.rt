@@ -123,18 +123,9 @@ impl Plan {
         ensures branches { branches.new ≡ flanks_branches self.now.drawing route requests.old branches.old }
     {
         let routes = self.drawing.routes.as_slice();
-        let place = route as usize;
-        if place >= routes.len() {
-            return Err(Refusal::NoSuchRoute);
-        }
-        match protection(
-            self.drawing.elements.as_slice(),
-            &routes[place],
-            requests,
-            branches,
-        ) {
-            Some(counts) => Ok(counts),
-            None => Err(Refusal::ListTooShort),
-        }
+        let route = routes.get(route as usize).ok_or(Refusal::NoSuchRoute)?;
+        protection(self.drawing.elements.as_slice(), route, requests, branches).ok_or(
+            Refusal::ListTooShort,
+        )
     }
 }

@@ -13,7 +13,9 @@ use layout::route::Route;
 fn is_asked_twice(marked: &[Mark; 96], number: usize) -> bool
     ensures { result ≡ is_asked_twice marked.now number }
 {
-    number < 96 && marked[number].plus && marked[number].minus
+    marked
+        .get(number)
+        .is_some_and(|mark| mark.plus && mark.minus)
 }
 
 /// Whether a point without the dual field is asked for in both positions.
@@ -21,7 +23,7 @@ fn is_torn(elements: &[Element], marked: &[Mark; 96], number: usize) -> bool
     ensures { result ≡ is_torn elements.now marked.now number }
 {
     let element = element_at(elements, number);
-    element.kind.is_point() && !element.dual.is_some() && is_asked_twice(marked, number)
+    element.kind.is_point() && element.dual.is_none() && is_asked_twice(marked, number)
 }
 
 /// Whether a route requests a point without the dual field both ways.
@@ -29,10 +31,5 @@ pub(crate) fn asks_both_ways(elements: &[Element], route: &Route) -> bool
     ensures { result ≡ asks_both_ways elements.now route.now }
 {
     let marked = shields(elements, route);
-    for i in 0..elements.len() {
-        if is_torn(elements, &marked, i) {
-            return true;
-        }
-    }
-    false
+    (0..elements.len()).any(|number| is_torn(elements, &marked, number))
 }

@@ -23,7 +23,7 @@ fn kind_of(number: Option<u8>) -> Kind
     ensures { result ≡ kind_in number }
 {
     match number {
-        Some(number) => Kind::of(number),
+        Some(number) => Kind::from(number),
         None => Kind::Track,
     }
 }
@@ -32,7 +32,7 @@ fn dual_of(number: Option<u8>) -> Option<Dual>
     ensures { result ≡ dual_in number }
 {
     match number {
-        Some(number) => Some(Dual::of(number)),
+        Some(number) => Some(Dual::from(number)),
         None => None,
     }
 }
@@ -41,7 +41,7 @@ fn sort_of(number: Option<u8>) -> Option<Sort>
     ensures { result ≡ sort_in number }
 {
     match number {
-        Some(number) => Some(Sort::of(number)),
+        Some(number) => Some(Sort::from(number)),
         None => None,
     }
 }
@@ -50,7 +50,7 @@ fn marks_of(number: Option<u8>) -> Option<Marks>
     ensures { result ≡ marks_in number }
 {
     match number {
-        Some(number) => Some(Marks::of(number)),
+        Some(number) => Some(Marks::from(number)),
         None => None,
     }
 }
@@ -59,7 +59,7 @@ fn class_of(number: Option<u8>) -> RouteClass
     ensures { result ≡ class_in number }
 {
     match number {
-        Some(number) => RouteClass::of(number),
+        Some(number) => RouteClass::from(number),
         None => RouteClass::Shunting,
     }
 }

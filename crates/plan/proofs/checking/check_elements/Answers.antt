@@ -3,11 +3,11 @@ use Rattle.plan.specs.Checks.{elements_fault}
 use Rattle.plan.proofs.FirstTurn.{first_none, first_more, first_all}
 use Rattle.plan.proofs.checking.check_elements.Goals as goal
 
-pub loop-i-init : goal.loop-i-init
-loop-i-init c = search (rules, first_none)
+pub loop-number-init : goal.loop-number-init
+loop-number-init c = search (rules, first_none)
 
-pub loop-i-preserved : goal.loop-i-preserved
-loop-i-preserved c = search (rules, first_more)
+pub loop-number-preserved : goal.loop-number-preserved
+loop-number-preserved c = search (rules, first_more)
 
 pub returns : goal.returns
 unfolding elements_fault
