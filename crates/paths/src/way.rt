@@ -3,7 +3,7 @@
 ghost use Rattle.std.specs.Prelude.{◌≡◌, ◌∷◌};
 ghost use Rattle.paths.specs.Following.{turns, exit, step, follows};
 
-use layout::element::Element;
+use layout::element::{Element, Join};
 use layout::kind::Kind;
 use layout::ports::element_at;
 
@@ -14,35 +14,39 @@ fn may_turn(kind: Kind, entered: u8, left: u8) -> bool
     left < kind.port_count() && left != entered && (!kind.is_point() || entered == 0 || left == 0)
 }
 
-/// Where the next element is entered, if a port is the way to it.
-fn exit_by(elements: &[Element], from: u8, entered: u8, next: u8, left: u8) -> Option<u8>
-    ensures { result ≡ exit elements.now from entered next left }
+/// Where the next element is entered from a port, if another port of its element is the way to it.
+fn exit_by(elements: &[Element], entered: Join, next: u8, left: u8) -> Option<u8>
+    ensures { result ≡ exit elements.now entered.element entered.port next left }
 {
-    let element = element_at(elements, from as usize);
+    let element = element_at(elements, entered.element as usize);
     element
         .join(left)
-        .filter(|join| join.element == next && may_turn(element.kind, entered, left))
+        .filter(|join| join.element == next && may_turn(element.kind, entered.port, left))
         .map(|join| join.port)
 }
 
 /// Where the next element is entered from an element that was entered at a port.
-fn step_to(elements: &[Element], from: u8, entered: u8, next: u8) -> Option<u8>
-    ensures { result ≡ step elements.now from entered next }
+fn step_to(elements: &[Element], entered: Join, next: u8) -> Option<u8>
+    ensures { result ≡ step elements.now entered.element entered.port next }
 {
-    exit_by(elements, from, entered, next, 0)
-        .or(exit_by(elements, from, entered, next, 1))
-        .or(exit_by(elements, from, entered, next, 2))
+    exit_by(elements, entered, next, 0)
+        .or(exit_by(elements, entered, next, 1))
+        .or(exit_by(elements, entered, next, 2))
 }
 
 /// Where the last of some elements is entered by the way over them from a first one, which is entered at port 0.
 pub(crate) fn follow(elements: &[Element], first: u8, rest: &[u8]) -> Option<u8>
     ensures { result ≡ follows elements.now first 0 rest.now }
 {
-    let mut from = first;
-    let mut entered = 0;
+    let mut entered = Join {
+        element: first,
+        port: 0,
+    };
     for next in rest {
-        entered = step_to(elements, from, entered, *next)?;
-        from = *next;
+        entered = Join {
+            element: *next,
+            port: step_to(elements, entered, *next)?,
+        };
     }
-    Some(entered)
+    Some(entered.port)
 }

@@ -122,10 +122,9 @@ impl Plan {
         ensures requests { requests.new ≡ flanks_requests self.now.drawing route requests.old branches.old }
         ensures branches { branches.new ≡ flanks_branches self.now.drawing route requests.old branches.old }
     {
+        let elements = self.drawing.elements.as_slice();
         let routes = self.drawing.routes.as_slice();
         let route = routes.get(route as usize).ok_or(Refusal::NoSuchRoute)?;
-        protection(self.drawing.elements.as_slice(), route, requests, branches).ok_or(
-            Refusal::ListTooShort,
-        )
+        protection(elements, route, requests, branches).ok_or(Refusal::ListTooShort)
     }
 }

@@ -7,40 +7,30 @@ ghost use Rattle.runlaws.specs.Settled.{SettlingIsExact};
 ghost use Rattle.runlaws.specs.SheetLaw.{LawOfRuns};
 
 /// The law holds of every run.
-pub fn law_of_runs() -> u8
+pub fn law_of_runs()
     ensures { LawOfRuns }
-{
-    0
-}
+{}
 
 /// Settling is what its words say, in whichever order routes are taken.
-pub fn settling_is_exact() -> u8
+pub fn settling_is_exact()
     ensures { SettlingIsExact }
-{
-    0
-}
+{}
 
 /// A route is ready exactly if its words say so.
-pub fn readiness_is_exact() -> u8
+pub fn readiness_is_exact()
     ensures { ReadyExactly }
-{
-    0
-}
+{}
 
 /// Every accepted act leaves every clear route ready and no waiting one, and only a clear route is dropped.
-pub fn settled_after_every_act() -> u8
+pub fn settled_after_every_act()
     ensures { SettledAfter }
-{
-    0
-}
+{}
 
 /// What a set may be refused for, that a refusal changes nothing, and that one signal starts one standing route.
-pub fn beside_the_law() -> u8
+pub fn beside_the_law()
     ensures protection { NoWantRefuses }
     ensures set { SetExactly }
     ensures locked { AdmitsOverLocked }
     ensures refused { RefusedChangesNothing }
     ensures starts { OneStandingStart }
-{
-    0
-}
+{}

@@ -11,20 +11,16 @@ ghost use Rattle.safety.specs.Setting.{SetExactly, SameOnEveryField, RefusedChan
 ghost use Rattle.safety.specs.Ready.{ReadyExactly, SettledAfter};
 
 /// The law holds of every run on a sound plan.
-pub fn law_of_runs() -> u8
+pub fn law_of_runs()
     ensures { (d : Drawing) → SoundPlan d → (m : Meaning) (acts : List Act) → Law d m acts }
-{
-    0
-}
+{}
 
 /// On a sound plan: when a set is accepted, that no field decides it, that a refused act changes nothing,
 /// when a route is ready, and what every accepted act leaves settled.
-pub fn acts_are_exact() -> u8
+pub fn acts_are_exact()
     ensures set { (d : Drawing) → SoundPlan d → SetExactly d }
     ensures field { (d : Drawing) → SoundPlan d → SameOnEveryField d }
     ensures refused { (d : Drawing) → SoundPlan d → RefusedChangesNothing d }
     ensures ready { (d : Drawing) → SoundPlan d → ReadyExactly d }
     ensures settled { (d : Drawing) → SoundPlan d → SettledAfter d }
-{
-    0
-}
+{}

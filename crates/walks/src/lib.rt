@@ -4,10 +4,8 @@
 ghost use Rattle.walks.specs.Exactly.{ChainsEnd, RequestsExact, BranchesExact};
 
 /// No chain of signals is cut short, what a route requests is what walks come to, and its open branches are where walks end open.
-pub fn walks_are_exact() -> bool
+pub fn walks_are_exact()
     ensures chains { ChainsEnd }
     ensures requests { RequestsExact }
     ensures branches { BranchesExact }
-{
-    true
-}
+{}

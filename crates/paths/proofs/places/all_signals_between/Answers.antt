@@ -16,5 +16,5 @@ returns c =
     let count : length way - 1 - 1 ≡ length way - 2 = omega arith in
     all_from_yields_List passes _ _ _ c.all.ensures.ran (YieldsList-from_slice (take (length way - 1 - 1) (drop 1 way)) cc) (λ x b q k. search (rules, tests))
     ∙ rw count (
-        sym (every_items passes way 0 (length way - 2) 1 (omega (arith, c.requires)))
-        ∙ sym (every_next (λ k. passes (get_or way k 0)) (length way - 2) 0))
+    sym (every_items passes way 0 (length way - 2) 1 (omega (arith, c.requires)))
+    ∙ sym (every_next (λ k. passes (get_or way k 0)) (length way - 2) 0))
