@@ -1,4 +1,3 @@
-mod FollowTurn
 mod StepsExact
 mod PlacesExact
 pub mod PathsExact
