@@ -1,11 +1,7 @@
 -- A read that asks for some bytes answers the same on a window that has them as on all the bytes.
 use Rattle.std.proofs.Common.{◌≡◌, ℕ, zero, suc, ◌+◌, ◌-◌, ◌≤◌, min, Bool, true, false, cond, List, length, take, drop, Ok, Err, sym, refl, ap, ◌∙◌, subst, arith}
-use Rattle.planbytes.specs.Bytes.{Reading, and_then, times, ended_at}
+use Rattle.planbytes.specs.Bytes.{Reading, Read, and_then, times, ended_at}
 use Rattle.planbytes.specs.Records.{value_of}
-
--- A read of bytes that stand at an offset, from a place on.
-abbrev pub Read : Type 0 → Type 0
-Read X = ℕ → List ℕ → ℕ → Reading X
 
 -- How many bytes a read asks for, by the bytes and the place before it.
 abbrev pub Width : Type 0

@@ -4,9 +4,9 @@ use Rattle.std.proofs.lemmas.List.{get_or-take, get_or-drop, length-take-le}
 use Rattle.std.proofs.lemmas.Bool.{cases_lt, lt-ltb, le-ltb}
 use Rattle.faults.specs.declared.fault.Cause.{Cause}
 use Rattle.faults.specs.declared.fault.Fault.{Fault}
-use Rattle.planbytes.specs.Bytes.{fault, Reading, and_then, byte_at}
+use Rattle.planbytes.specs.Bytes.{fault, Reading, Read, and_then, byte_at}
 use Rattle.planbytes.specs.Records.{byte_or_none}
-use Rattle.planbytes.proofs.Local.{Read, Width, Local, moved, window, place, then_local}
+use Rattle.planbytes.specs.Local.{Width, Local, moved, window, place, then_local}
 
 -- A read of one byte, whose value is that byte.
 pub record Single (f : Read ℕ) : Type 0 where
