@@ -1,5 +1,5 @@
 -- The fields of element records and route records, read byte by byte.
-use Rattle.std.specs.Prelude.{ℕ, ◌/◌, ◌%◌, ◌^◌, Bool, true, false, cond, [], ◌∷◌, Some, None, Ok, Option, ◌==◌, option_map}
+use Rattle.std.specs.Prelude.{ℕ, ◌/◌, ◌%◌, ◌^◌, Bool, cond, [], ◌∷◌, Some, None, Ok, Option, ◌==◌, is_some, option_map}
 use Rattle.std.specs.Option.{option_map_or}
 use Rattle.bounded.specs.declared.bounded.Bounded.{Bounded}
 use Rattle.bounded.specs.Lists.{empty_of}
@@ -76,10 +76,6 @@ numbers_if map bit low high = read_if (stands map bit) (numbers_at low high)
 abbrev pub class_in : Option ℕ → RouteClass
 class_in n = option_map_or class_of n class.Shunting
 
-abbrev pub is_there : {X : Type 0} → Option X → Bool
-is_there None = false
-is_there (Some x) = true
-
 -- A route record: a map of four bits, then the fields whose bits stand, in the order of the bits.
 abbrev pub route_at : Read Route
 route_at o bs p =
@@ -88,4 +84,4 @@ route_at o bs p =
     and_then (numbers_if m 1 3 24 o bs p₁) (λ w p₂.
     and_then (numbers_if m 2 1 8 o bs p₂) (λ v p₃.
     and_then (number_if m 3 1 1 o bs p₃) (λ z p₄.
-    Ok (record { class = class_in c; path = w; overlap = v; zero_overlap = is_there z }, p₄))))))
+    Ok (record { class = class_in c; path = w; overlap = v; zero_overlap = is_some z }, p₄))))))

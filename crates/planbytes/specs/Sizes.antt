@@ -2,10 +2,11 @@
 use Rattle.std.proofs.Common.{◌≡◌, ℕ, ◌+◌, ◌-◌, ◌&&◌, Bool, true, false, cond, leb, ltb, List, length, drop, [], ◌∷◌, Some, None, Ok, inl, inr, sym, ap, ◌∙◌, arith, length-drop}
 use Rattle.std.proofs.lemmas.Bool.{cases_lt, lt-ltb, le-ltb}
 use Rattle.std.proofs.lemmas.List.{get_or-drop}
+use Rattle.std.specs.Prelude.{is_some}
 use Rattle.faults.specs.declared.fault.Cause.TheVariants as cause
 use Rattle.bounded.specs.Lists.{empty_of, pushed}
 use Rattle.planbytes.specs.Bytes.{Read, and_then, byte_at, byte_in}
-use Rattle.planbytes.specs.Fields.{stands, read_if, number_if, join_at, join_if, kind_in, dual_in, sort_in, marks_in, element_at, numbers_at, numbers_if, class_in, is_there, route_at}
+use Rattle.planbytes.specs.Fields.{stands, read_if, number_if, join_at, join_if, kind_in, dual_in, sort_in, marks_in, element_at, numbers_at, numbers_if, class_in, route_at}
 use Rattle.planbytes.specs.Items.{item_step, items_at}
 use Rattle.planbytes.specs.Records.{width, element_size, byte_or_none, list_size, path_place, overlap_place, route_size}
 use Rattle.planbytes.specs.Local.{Width, Local, wide_local, if_local, next_local, made_local, times_local}
@@ -83,6 +84,6 @@ route_local =
     next_local _ _ _ _ (number_if_local m 0 1 1) (λ c.
     next_local _ _ _ _ (numbers_if_local m 1 3 24) (λ w.
     next_local _ _ _ _ (numbers_if_local m 2 1 8) (λ v.
-    made_local _ _ (λ z. record { class = class_in c; path = w; overlap = v; zero_overlap = is_there z })
+    made_local _ _ (λ z. record { class = class_in c; path = w; overlap = v; zero_overlap = is_some z })
     (number_if_local m 3 1 1))))))
     (λ bs p. route_wide (byte_or_none bs p) bs p)

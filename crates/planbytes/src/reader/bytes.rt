@@ -1,6 +1,6 @@
 //! Single bytes: the next one, one of a range, and none left.
 
-ghost use Rattle.std.specs.Prelude.{◌≡◌, length};
+ghost use Rattle.std.specs.Prelude.{◌≡◌, ◌+◌};
 ghost use Rattle.std.specs.Range.{range_inclusive_start, range_inclusive_end};
 ghost use Rattle.planbytes.specs.Bytes.{byte_at, byte_in, left_over, fault_in};
 ghost use Rattle.planbytes.specs.Took.{Took};
@@ -17,6 +17,13 @@ impl<'a> Reader<'a> {
         ensures start { result.at ≡ 0 }
     {
         Reader { part, at: 0 }
+    }
+
+    /// Where the next byte stands among the offered ones.
+    pub(crate) fn place(&self) -> usize
+        ensures { result ≡ self.now.part.offset + self.now.at }
+    {
+        self.part.offset + self.at
     }
 
     /// The next byte.
@@ -36,8 +43,9 @@ impl<'a> Reader<'a> {
     pub(crate) fn byte_in(&mut self, range: RangeInclusive<u8>) -> Result<u8, Fault>
         ensures { Took self.old self.new result (byte_in (range_inclusive_start range) (range_inclusive_end range)) }
     {
-        let place = self.part.offset + self.at;
+        let place = self.place();
         let byte = self.byte()?;
+        // `contains` leaves out the end of a range that was iterated.
         if *range.start() <= byte && byte <= *range.end() {
             Ok(byte)
         } else {
@@ -55,7 +63,7 @@ impl<'a> Reader<'a> {
         if self.at < self.part.bytes.len() {
             return Err(Fault {
                 cause: Cause::LeftOver,
-                place: self.part.offset + self.at,
+                place: self.place(),
             });
         }
         Ok(())

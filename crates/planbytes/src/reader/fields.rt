@@ -64,7 +64,7 @@ impl<const N: usize> Field for ListField<N> {
     }
 }
 
-impl<'a> Reader<'a> {
+impl Reader<'_> {
     /// What a field holds, where the record has it.
     pub(crate) fn read_if<F: Field + Drop>(
         &mut self,

@@ -36,7 +36,7 @@ impl<T: Recorded> Item for T {
     }
 }
 
-impl<'a> Reader<'a> {
+impl Reader<'_> {
     /// A list with as many items more at its end as a count says.
     pub(crate) fn extended<T: Item + Copy, const N: usize>(
         &mut self,

@@ -16,18 +16,16 @@ impl<'a> Reader<'a> {
         ensures { Took self.old self.new (made_of seen result) (record_at T.size) }
     {
         let start = self.at;
+        let offset = self.place();
         let (_, rest) = self.part.bytes.split_at(start);
         let map = FieldMap(self.byte()?);
         let (bytes, _) = rest.split_at(T::size(map, rest).min(rest.len()));
         self.at = start + bytes.len();
-        Ok(Part {
-            bytes,
-            offset: self.part.offset + start,
-        })
+        Ok(Part { bytes, offset })
     }
 }
 
-impl<'a> Part<'a> {
+impl Part<'_> {
     /// What a record says whose bytes these are.
     pub(crate) fn says<T: Recorded>(self) -> Result<T, Fault>
         ensures { result ≡ said T.read_at (seen self.entry) }
