@@ -1,5 +1,5 @@
 -- Putting items at the end of one list of a drawing is putting elements, or routes, into the drawing.
-use Rattle.std.proofs.Common.{◌≡◌, ℕ, zero, suc, List, Ok, Err, Result, refl, ap, ◌∙◌}
+use Rattle.std.proofs.Common.{◌≡◌, ℕ, zero, suc, List, Ok, Err, Result, refl, ap, ◌∙◌, arith}
 use Rattle.faults.specs.declared.fault.Fault.{Fault}
 use Rattle.bounded.specs.declared.bounded.Bounded.{Bounded}
 use Rattle.bounded.specs.Lists.{pushed}
@@ -13,13 +13,8 @@ use Rattle.planbytes.specs.Files.{element_step, route_step, elements_at, routes_
 use Rattle.planbytes.specs.Items.{item_step, items_at}
 
 -- The whole that a list is part of.
-abbrev pub within : {X S : Type 0} → {N : ℕ} → (Bounded X N → S) → Reading (Bounded X N) → Reading S
+abbrev within : {X S : Type 0} → {N : ℕ} → (Bounded X N → S) → Reading (Bounded X N) → Reading S
 within whole r = and_then r (λ xs q. Ok (whole xs, q))
-
-added_within : {X S : Type 0} {N : ℕ} (whole : Bounded X N → S) (xs : Bounded X N) (r : Reading X)
-    → and_then r (λ x q. Ok (whole (pushed xs x), q)) ≡ within whole (and_then r (λ x q. Ok (pushed xs x, q)))
-added_within whole xs (Ok v) = refl
-added_within whole xs (Err e) = refl
 
 more_within : {X S : Type 0} {N : ℕ} (whole : Bounded X N → S) (f : S → ℕ → Reading S) (g : Bounded X N → ℕ → Reading (Bounded X N)) (xs : Bounded X N)
     → ((ys : Bounded X N) (q : ℕ) → f (whole ys) q ≡ within whole (g ys q)) → (r : Reading X)
@@ -35,10 +30,10 @@ times_within whole read f o bs step zero xs p = refl
 times_within whole read f o bs step (suc n) xs p = ap (λ r. and_then r (times n f)) (step xs p)
     ∙ more_within whole (times n f) (times n (item_step read o bs)) xs (times_within whole read f o bs step n) (read o bs p)
 
-abbrev pub with_elements : Drawing → Bounded Element 96 → Drawing
+abbrev with_elements : Drawing → Bounded Element 96 → Drawing
 with_elements d es = record { elements = es; routes = d.routes }
 
-abbrev pub with_routes : Drawing → Bounded Route 64 → Drawing
+abbrev with_routes : Drawing → Bounded Route 64 → Drawing
 with_routes d rs = record { elements = d.elements; routes = rs }
 
 pub elements_within : (n o : ℕ) (bs : List ℕ) (p : ℕ)
@@ -55,8 +50,7 @@ routes_within n d o bs p =
 
 when_within : {X S Y : Type 0} {N : ℕ} (whole : Bounded X N → S) (r : Reading (Bounded X N)) (f : S → ℕ → Result Y Fault)
     → and_when (within whole r) f ≡ and_when r (λ xs q. f (whole xs) q)
-when_within whole (Ok v) f = refl
-when_within whole (Err e) f = refl
+when_within whole r f = grind arith
 
 -- What bytes say, list by list.
 pub drawn_lists : (bs : List ℕ) → drawn_by bs ≡

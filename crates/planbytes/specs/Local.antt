@@ -1,5 +1,5 @@
 -- A read that asks for some bytes answers the same on a window that has them as on all the bytes.
-use Rattle.std.proofs.Common.{◌≡◌, ℕ, zero, suc, ◌+◌, ◌-◌, ◌≤◌, min, Bool, true, false, cond, List, length, take, drop, Ok, Err, sym, refl, ap, ◌∙◌, subst, arith}
+use Rattle.std.proofs.Common.{◌≡◌, ℕ, zero, suc, ◌+◌, ◌-◌, ◌≤◌, min, List, length, take, drop, Ok, Err, sym, refl, ap, ◌∙◌, subst, arith}
 use Rattle.planbytes.specs.Bytes.{Reading, Read, and_then, times, ended_at}
 use Rattle.planbytes.specs.Records.{value_of}
 
@@ -36,12 +36,6 @@ pure_local v = record {
   same = λ o bs p n i h k. refl;
   ends = λ o bs p u q h e. let z : p ≡ q = ap place e in (omega arith, omega arith);
 }
-
--- A read, if a test holds.
-pub if_local : {X : Type 0} (w : Width) (f : Read X) (d : X) (b : Bool) → Local w f
-    → Local (λ bs p. cond b (w bs p) 0) (λ o bs p. cond b (f o bs p) (Ok (d, p)))
-if_local w f d true l = l
-if_local w f d false l = pure_local d
 
 -- A read f, and then one, g, that may go by what was read; c counts the bytes of both.
 module _ {X Y : Type 0} (a : Width) (b : X → Width) (c : Width) (f : Read X) (g : X → Read Y) (lf : Local a f) (lg : (v : X) → Local (b v) (g v))

@@ -1,12 +1,13 @@
 -- A read of one byte asks for that byte, and one that goes by it for as many more as the byte says.
-use Rattle.std.proofs.Common.{◌≡◌, ℕ, ◌+◌, ◌-◌, ◌<◌, ◌≤◌, min, Bool, true, false, cond, ltb, ◌⊎◌, List, length, get_or, drop, Ok, Err, sym, refl, ap, ◌∙◌, inl, inr, arith, length-drop}
-use Rattle.std.proofs.lemmas.List.{get_or-take, get_or-drop, length-take-le}
-use Rattle.std.proofs.lemmas.Bool.{cases_lt, lt-ltb, le-ltb}
+use Rattle.std.proofs.Common.{◌≡◌, ℕ, ◌+◌, ◌-◌, ◌<◌, ◌≤◌, min, Bool, cond, List, length, get_or, drop, Ok, Err, sym, ap, ◌∙◌, arith}
+use Rattle.std.proofs.lemmas.Bool.Decides.{nat_tests}
+use Rattle.std.proofs.lemmas.Grind.{common_steps}
+use Rattle.std.proofs.lemmas.List.{get_or-take, get_or-drop}
 use Rattle.faults.specs.declared.fault.Cause.{Cause}
 use Rattle.faults.specs.declared.fault.Fault.{Fault}
 use Rattle.planbytes.specs.Bytes.{fault, Reading, Read, and_then, byte_at}
 use Rattle.planbytes.specs.Records.{byte_or_none}
-use Rattle.planbytes.specs.Local.{Width, Local, moved, window, place, then_local}
+use Rattle.planbytes.specs.Local.{Width, Local, moved, window, then_local}
 
 -- A read of one byte, whose value is that byte.
 pub record Single (f : Read ℕ) : Type 0 where
@@ -14,52 +15,22 @@ pub record Single (f : Read ℕ) : Type 0 where
   pub value : (o : ℕ) (bs : List ℕ) (p b q : ℕ) → f o bs p ≡ Ok (b, q) → b ≡ byte_or_none bs p
 
 window_length : (n p : ℕ) (bs : List ℕ) → length (window n p bs) ≡ min n (length bs - p)
-window_length n p bs =
-    let d : length (drop p bs) ≡ length bs - p = length-drop p bs in
-    length-take-le (min n (length bs - p)) (drop p bs) (omega arith)
+window_length n p bs = grind (arith, common_steps)
 
 window_getD : (n p : ℕ) (bs : List ℕ) (i : ℕ) → i < min n (length bs - p) → get_or (window n p bs) i 0 ≡ get_or bs (p + i) 0
 window_getD n p bs i h = get_or-take (min n (length bs - p)) (drop p bs) i 0 h ∙ get_or-drop p bs i 0
 
-byte_same : (o : ℕ) (bs : List ℕ) (p n i : ℕ) → p + i ≤ length bs → i + 1 ≤ n → (p + i < length bs) ⊎ (length bs ≤ p + i)
+byte_same : (o : ℕ) (bs : List ℕ) (p n i : ℕ) → p + i ≤ length bs → i + 1 ≤ n
     → moved p (byte_at (o + p) (window n p bs) i) ≡ byte_at o bs (p + i)
-byte_same o bs p n i h k (inl l) =
-    let m : length (window n p bs) ≡ min n (length bs - p) = window_length n p bs in
-    let t : ltb i (length (window n p bs)) ≡ true = lt-ltb i (length (window n p bs)) (omega arith) in
-    let u : ltb (p + i) (length bs) ≡ true = lt-ltb (p + i) (length bs) l in
-    let g : get_or (window n p bs) i 0 ≡ get_or bs (p + i) 0 = window_getD n p bs i (omega arith) in
-    let a : p + (i + 1) ≡ p + i + 1 = omega arith in
-    rw (t, u) (cc)
-byte_same o bs p n i h k (inr l) =
-    let m : length (window n p bs) ≡ min n (length bs - p) = window_length n p bs in
-    let t : ltb i (length (window n p bs)) ≡ false = le-ltb i (length (window n p bs)) (omega arith) in
-    let u : ltb (p + i) (length bs) ≡ false = le-ltb (p + i) (length bs) l in
-    let a : o + p + length (window n p bs) ≡ o + length bs = omega arith in
-    rw (t, u) (cc)
-
-abbrev value : Reading ℕ → ℕ
-value (Ok v) = v.0
-value (Err f) = 0
-
-byte_told : (o : ℕ) (bs : List ℕ) (p b q : ℕ) → (p < length bs) ⊎ (length bs ≤ p) → byte_at o bs p ≡ Ok (b, q)
-    → (b ≡ byte_or_none bs p) × ((q ≡ p + 1) × (q ≤ length bs))
-byte_told o bs p b q (inl l) e =
-    let t : ltb p (length bs) ≡ true = lt-ltb p (length bs) l in
-    let s = rw t at e in
-    let z : p + 1 ≡ q = ap place s in
-    (rw t (sym (ap value s)), (omega arith, omega arith))
-byte_told o bs p b q (inr l) e =
-    let t : ltb p (length bs) ≡ false = le-ltb p (length bs) l in
-    let s = rw t at e in
-    let z : ◌≡◌ {A = ℕ} 0 1 = cc in (omega arith, (omega arith, omega arith))
+byte_same o bs p n i h k = grind (arith, nat_tests, window_length, window_getD)
 
 pub byte_single : Single byte_at
 byte_single = record {
   local = record {
-    same = λ o bs p n i h k. byte_same o bs p n i h k (cases_lt (p + i) (length bs));
-    ends = λ o bs p b q h e. (byte_told o bs p b q (cases_lt p (length bs)) e).1;
+    same = byte_same;
+    ends = λ o bs p b q h e. grind (arith, nat_tests);
   };
-  value = λ o bs p b q e. (byte_told o bs p b q (cases_lt p (length bs)) e).0;
+  value = λ o bs p b q e. grind (arith, nat_tests);
 }
 
 -- A value that has to pass a test.
@@ -70,23 +41,12 @@ judged test f v q = cond (test v) (Ok (v, q)) (Err f)
 abbrev pub tested : {X : Type 0} → (X → Bool) → Cause → Read X → Read X
 tested test c f o bs p = and_then (f o bs p) (judged test (fault c (o + p)))
 
-cond_same : {X : Type 0} (c : Cause) (v : X) (q o p i : ℕ) (b : Bool)
-    → moved p (cond b (Ok (v, q)) (Err (fault c (o + p + i)))) ≡ cond b (Ok (v, p + q)) (Err (fault c (o + (p + i))))
-cond_same c v q o p i true = refl
-cond_same c v q o p i false = let a : o + p + i ≡ o + (p + i) = omega arith in cc
-
 judged_same : {X : Type 0} (test : X → Bool) (c : Cause) (o p i : ℕ) (x : Reading X)
     → moved p (and_then x (judged test (fault c (o + p + i)))) ≡ and_then (moved p x) (judged test (fault c (o + (p + i))))
-judged_same test c o p i (Err e) = refl
-judged_same test c o p i (Ok v) = cond_same c v.0 v.1 o p i (test v.0)
-
-cond_passed : {X : Type 0} (f : Fault) (u v : X × ℕ) (b : Bool) → ◌≡◌ {A = Reading X} (cond b (Ok u) (Err f)) (Ok v) → ◌≡◌ {A = Reading X} (Ok u) (Ok v)
-cond_passed f u v true e = e
-cond_passed f u v false e = cc
+judged_same test c o p i x = grind arith
 
 judged_passed : {X : Type 0} (test : X → Bool) (f : Fault) (u : X × ℕ) (x : Reading X) → and_then x (judged test f) ≡ Ok u → x ≡ Ok u
-judged_passed test f u (Err e) d = cc
-judged_passed test f u (Ok v) d = cond_passed f v u (test v.0) d
+judged_passed test f u x d = grind arith
 
 pub tested_single : (f : Read ℕ) (test : ℕ → Bool) (c : Cause) → Single f → Single (tested test c f)
 tested_single f test c s = record {

@@ -1,6 +1,6 @@
 -- An element record asks for as many bytes as its map says, and a route record for as many as its map and its counts say.
-use Rattle.std.proofs.Common.{◌≡◌, ℕ, ◌+◌, ◌-◌, ◌&&◌, Bool, true, false, cond, leb, ltb, List, length, drop, [], ◌∷◌, Some, None, Ok, inl, inr, sym, ap, ◌∙◌, arith, length-drop}
-use Rattle.std.proofs.lemmas.Bool.{cases_lt, lt-ltb, le-ltb}
+use Rattle.std.proofs.Common.{◌≡◌, ℕ, ◌+◌, ◌&&◌, Bool, true, false, cond, leb, List, drop, [], ◌∷◌, Some, None, Ok, arith, length-drop, add_assoc}
+use Rattle.std.proofs.lemmas.Bool.Decides.{nat_tests}
 use Rattle.std.proofs.lemmas.List.{get_or-drop}
 use Rattle.std.specs.Prelude.{is_some}
 use Rattle.faults.specs.declared.fault.Cause.TheVariants as cause
@@ -8,15 +8,16 @@ use Rattle.bounded.specs.Lists.{empty_of, pushed}
 use Rattle.planbytes.specs.Bytes.{Read, and_then, byte_at, byte_in}
 use Rattle.planbytes.specs.Fields.{stands, read_if, number_if, join_at, join_if, kind_in, dual_in, sort_in, marks_in, element_at, numbers_at, numbers_if, class_in, route_at}
 use Rattle.planbytes.specs.Items.{item_step, items_at}
-use Rattle.planbytes.specs.Records.{width, element_size, byte_or_none, list_size, path_place, overlap_place, route_size}
-use Rattle.planbytes.specs.Local.{Width, Local, wide_local, if_local, next_local, made_local, times_local}
+use Rattle.planbytes.specs.Records.{width, element_size, byte_or_none, list_size, route_size}
+use Rattle.planbytes.specs.Local.{Width, Local, wide_local, pure_local, next_local, made_local, times_local}
 use Rattle.planbytes.specs.Singles.{Single, byte_single, tested_single, by_local}
 
 in_single : (low high : ℕ) → Single (byte_in low high)
 in_single low high = tested_single byte_at (λ b. leb low b && leb b high) cause.OutOfRange byte_single
 
 field_local : {X : Type 0} (b : Bool) (w : Width) (f : Read X) → Local w f → Local (λ bs p. cond b (w bs p) 0) (read_if b f)
-field_local b w f l = if_local w (λ o bs p. and_then (f o bs p) (λ x q. Ok (Some x, q))) None b (made_local w f Some l)
+field_local true w f l = made_local w f Some l
+field_local false w f l = pure_local None
 
 number_if_local : (m bit low high : ℕ) → Local (λ bs p. width m bit 1) (number_if m bit low high)
 number_if_local m bit low high = field_local (stands m bit) (λ bs p. 1) (byte_in low high) (in_single low high).local
@@ -54,28 +55,7 @@ element_local =
 
 -- A list that stands behind p takes as many bytes in the bytes from p on.
 list_behind : (bs : List ℕ) (p i : ℕ) → list_size bs (p + i) ≡ list_size (drop p bs) i
-list_behind bs p i = elim (cases_lt (p + i) (length bs)) [
-  | inl b ↦ let d : length (drop p bs) ≡ length bs - p = length-drop p bs in
-      let t : ltb (p + i) (length bs) ≡ true = lt-ltb (p + i) (length bs) b in
-      let u : ltb i (length (drop p bs)) ≡ true = lt-ltb i (length (drop p bs)) (omega arith) in
-      rw (t, u) (ap (λ n. 1 + n) (sym (get_or-drop p bs i 0)))
-  | inr b ↦ let d : length (drop p bs) ≡ length bs - p = length-drop p bs in
-      let t : ltb (p + i) (length bs) ≡ false = le-ltb (p + i) (length bs) b in
-      let u : ltb i (length (drop p bs)) ≡ false = le-ltb i (length (drop p bs)) (omega arith) in
-      rw (t, u)
-]
-
-route_wide : (m : ℕ) (bs : List ℕ) (p : ℕ)
-    → 1 + (width m 0 1 + (width m 1 (list_size bs (p + 1 + width m 0 1))
-    + (width m 2 (list_size bs (p + 1 + width m 0 1 + width m 1 (list_size bs (p + 1 + width m 0 1)))) + width m 3 1))) ≡ route_size m (drop p bs)
-route_wide m bs p =
-    let a : p + 1 + width m 0 1 ≡ p + path_place m = omega arith in
-    let path : list_size bs (p + 1 + width m 0 1) ≡ list_size (drop p bs) (path_place m) = ap (list_size bs) a ∙ list_behind bs p (path_place m) in
-    let e : width m 1 (list_size bs (p + 1 + width m 0 1)) ≡ width m 1 (list_size (drop p bs) (path_place m)) = ap (width m 1) path in
-    let b : p + 1 + width m 0 1 + width m 1 (list_size bs (p + 1 + width m 0 1)) ≡ p + overlap_place m (drop p bs) = omega (arith, e) in
-    let f : width m 2 (list_size bs (p + 1 + width m 0 1 + width m 1 (list_size bs (p + 1 + width m 0 1)))) ≡ width m 2 (list_size (drop p bs) (overlap_place m (drop p bs)))
-    = ap (λ i. width m 2 (list_size bs i)) b ∙ ap (width m 2) (list_behind bs p (overlap_place m (drop p bs))) in
-    omega (arith, e, f)
+list_behind bs p i = grind (arith, nat_tests, length-drop, get_or-drop)
 
 pub route_local : Local (λ bs p. route_size (byte_or_none bs p) (drop p bs)) route_at
 route_local =
@@ -86,4 +66,4 @@ route_local =
     next_local _ _ _ _ (numbers_if_local m 2 1 8) (λ v.
     made_local _ _ (λ z. record { class = class_in c; path = w; overlap = v; zero_overlap = is_some z })
     (number_if_local m 3 1 1))))))
-    (λ bs p. route_wide (byte_or_none bs p) bs p)
+    (λ bs p. simp (add_assoc, list_behind))
