@@ -9,9 +9,11 @@ use Rattle.planbytes.specs.Fields.{stands}
 abbrev pub width : ℕ → ℕ → ℕ → ℕ
 width map bit n = cond (stands map bit) n 0
 
+-- An element record has its map, and the fields whose bits stand.
 abbrev pub element_size : ℕ → ℕ
 element_size m = 1 + width m 0 1 + width m 1 2 + width m 2 2 + width m 3 2 + width m 4 1 + width m 5 1 + width m 6 1 + width m 7 1
 
+-- A byte, or 0 where there is none.
 abbrev pub byte_or_none : List ℕ → ℕ → ℕ
 byte_or_none bs p = cond (nat_lt p (length bs)) (slice_index bs p) 0
 
@@ -19,13 +21,14 @@ byte_or_none bs p = cond (nat_lt p (length bs)) (slice_index bs p) 0
 abbrev pub list_size : List ℕ → ℕ → ℕ
 list_size bs p = 1 + byte_or_none bs p
 
--- The places in a route record, counted from its first byte.
+-- Where the path and the overlap of a route record stand, counted from its first byte.
 abbrev pub path_place : ℕ → ℕ
 path_place m = 1 + width m 0 1
 
 abbrev pub overlap_place : ℕ → List ℕ → ℕ
 overlap_place m bs = path_place m + width m 1 (list_size bs (path_place m))
 
+-- A route record has its map, and the fields whose bits stand.
 abbrev pub route_size : ℕ → List ℕ → ℕ
 route_size m bs = overlap_place m bs + width m 2 (list_size bs (overlap_place m bs)) + width m 3 1
 
@@ -53,6 +56,7 @@ abbrev pub InOrder : {X : Type 0} → (ℕ → List ℕ → ℕ) → Read X → 
 InOrder size read = (o : ℕ) (bs : List ℕ) (p : ℕ) → p ≤ length bs
     → and_then (record_at size o bs p) (λ part q. ended_at (said read part) q) ≡ read o bs p
 
+-- What is made of an answer; a fault stays.
 abbrev pub made_of : {X Y : Type 0} → (X → Y) → Result X Fault → Result Y Fault
 made_of f (Ok v) = Ok (f v)
 made_of f (Err e) = Err e

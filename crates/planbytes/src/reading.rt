@@ -13,11 +13,11 @@ pub fn drawn(bytes: &[u8]) -> Result<Drawing, Fault>
     ensures { result ≡ drawn_by bytes.now }
 {
     let mut reader = Reader::over(Part { bytes, offset: 0 });
-    let elements = reader.byte_in(1..=96)?;
-    let routes = reader.byte_in(0..=64)?;
+    let element_count = reader.byte_in(1..=96)?;
+    let route_count = reader.byte_in(0..=64)?;
     let blank = Drawing::blank();
-    let elements = reader.extended(elements, blank.elements)?;
-    let routes = reader.extended(routes, blank.routes)?;
+    let elements = reader.extended(element_count, blank.elements)?;
+    let routes = reader.extended(route_count, blank.routes)?;
     reader.end()?;
     Ok(Drawing { elements, routes })
 }

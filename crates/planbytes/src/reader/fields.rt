@@ -12,7 +12,7 @@ use layout::element::Join;
 use std::ops::RangeInclusive;
 
 /// A field of a record: what it holds, and how its bytes are read.
-pub(crate) trait Field {
+pub(crate) trait Field: Drop {
     type Value;
 
     ghost read_at: { Self → Read Self.Value };
@@ -66,7 +66,7 @@ impl<const N: usize> Field for ListField<N> {
 
 impl Reader<'_> {
     /// What a field holds, where the record has it.
-    pub(crate) fn read_if<F: Field + Drop>(
+    pub(crate) fn read_if<F: Field>(
         &mut self,
         there: bool,
         field: F,

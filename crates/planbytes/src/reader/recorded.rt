@@ -23,5 +23,6 @@ pub(crate) trait Recorded {
     fn read(reader: &mut Reader) -> Result<Self, Fault>
         ensures { Took reader.old reader.new result read_at };
 
+    // A record read from its own bytes says what the bytes say in their order.
     ghost in_order: { InOrder size read_at };
 }

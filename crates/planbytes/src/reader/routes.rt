@@ -36,8 +36,8 @@ impl Recorded for Route {
     fn read(reader: &mut Reader) -> Result<Route, Fault> {
         let map = FieldMap(reader.byte_in(0..=15)?);
         let class = reader.read_if(map.has(0), 1..=1)?;
-        let path = reader.read_if(map.has(1), ListField::<24>(3..=24))?;
-        let overlap = reader.read_if(map.has(2), ListField::<8>(1..=8))?;
+        let path = reader.read_if(map.has(1), ListField(3..=24))?;
+        let overlap = reader.read_if(map.has(2), ListField(1..=8))?;
         let zero = reader.read_if(map.has(3), 1..=1)?;
         Ok(Route {
             class: class.map_or(RouteClass::Shunting, RouteClass::of),

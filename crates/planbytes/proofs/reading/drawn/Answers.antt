@@ -10,19 +10,19 @@ use Rattle.planbytes.proofs.reading.drawn.Goals.{After-blank-blank}
 
 -- Once both counts are read, the lists are left.
 lists_left : (c : After-blank-blank) → drawn_by c.args.bytes.now ≡
-    and_when (items_at element_at c.in_ok-elements.elements no_drawing.elements 0 c.args.bytes.now c.byte_in-2.new.self.at) (λ es p.
-    and_when (items_at route_at c.in_ok-routes.routes no_drawing.routes 0 c.args.bytes.now p) (λ rs q.
+    and_when (items_at element_at c.in_ok-element_count.element_count no_drawing.elements 0 c.args.bytes.now c.byte_in-2.new.self.at) (λ es p.
+    and_when (items_at route_at c.in_ok-route_count.route_count no_drawing.routes 0 c.args.bytes.now p) (λ rs q.
     unless (left_over 0 c.args.bytes.now q) (Ok (record { elements = es; routes = rs }))))
 lists_left c =
-    let n : byte_in 1 96 0 c.args.bytes.now 0 ≡ Ok (c.in_ok-elements.elements, c.byte_in.new.self.at) = search rules in
-    let m : byte_in 0 64 0 c.args.bytes.now c.byte_in.new.self.at ≡ Ok (c.in_ok-routes.routes, c.byte_in-2.new.self.at) = search rules in
+    let n : byte_in 1 96 0 c.args.bytes.now 0 ≡ Ok (c.in_ok-element_count.element_count, c.byte_in.new.self.at) = search rules in
+    let m : byte_in 0 64 0 c.args.bytes.now c.byte_in.new.self.at ≡ Ok (c.in_ok-route_count.route_count, c.byte_in-2.new.self.at) = search rules in
     rw (drawn_lists c.args.bytes.now, n, m)
 
-pub returns-in_err-elements-2 : goal.returns-in_err-elements-2
-returns-in_err-elements-2 c = let s = lists_left (goal.at.returns-in_err-elements-2 c).After-blank-blank in search rules
+pub returns-in_err-elements : goal.returns-in_err-elements
+returns-in_err-elements c = let s = lists_left (goal.at.returns-in_err-elements c).After-blank-blank in search rules
 
-pub returns-in_err-routes-2 : goal.returns-in_err-routes-2
-returns-in_err-routes-2 c = let s = lists_left (goal.at.returns-in_err-routes-2 c).After-blank-blank in search rules
+pub returns-in_err-routes : goal.returns-in_err-routes
+returns-in_err-routes c = let s = lists_left (goal.at.returns-in_err-routes c).After-blank-blank in search rules
 
 pub returns-in_err-end : goal.returns-in_err-end
 returns-in_err-end c = let s = lists_left (goal.at.returns-in_err-end c).After-blank-blank in search rules
