@@ -1,11 +1,7 @@
--- The start and a turn of a loop that takes a step n times.
+-- A turn of a loop that takes a step n times.
 use Rattle.std.proofs.Common.{◌≡◌, ℕ, suc, ◌+◌, ◌-◌, ◌<◌, Result, arith}
 use Rattle.faults.specs.declared.fault.Fault.{Fault}
 use Rattle.planbytes.specs.Bytes.{and_then, times}
-
-pub times_none : {S : Type 0} (n : ℕ) (f : S → ℕ → Result (S × ℕ) Fault) (s : S) (p : ℕ)
-    → times n f s p ≡ times (n - 0) f s p
-times_none n f s p = let e : n - 0 ≡ n = omega arith in rw e
 
 pub times_more : {S : Type 0} (n i : ℕ) (f : S → ℕ → Result (S × ℕ) Fault) (s : S) (p : ℕ) → i < n
     → times (n - i) f s p ≡ and_then (f s p) (times (n - (i + 1)) f)

@@ -11,6 +11,10 @@ fault c p = record { cause = c; place = p }
 abbrev pub Reading : Type 0 → Type 0
 Reading X = Result (X × ℕ) Fault
 
+-- A read: what it answers at each offset of the first byte, all bytes and the place before it.
+abbrev pub Read : Type 0 → Type 0
+Read X = ℕ → List ℕ → ℕ → Reading X
+
 -- A read and then, at the place after it, another one.
 abbrev pub and_then : {X Y : Type 0} → Result (X × ℕ) Fault → (X → ℕ → Result (Y × ℕ) Fault) → Result (Y × ℕ) Fault
 and_then (Ok v) f = f v.0 v.1

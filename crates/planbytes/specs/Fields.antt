@@ -1,8 +1,8 @@
 -- The fields of element records and route records, read byte by byte.
-use Rattle.std.specs.Prelude.{ℕ, ◌/◌, ◌%◌, ◌^◌, Bool, true, false, cond, List, [], ◌∷◌, Some, None, Ok, Option, Result, ◌==◌}
-use Rattle.faults.specs.declared.fault.Fault.{Fault}
+use Rattle.std.specs.Prelude.{ℕ, ◌/◌, ◌%◌, ◌^◌, Bool, cond, [], ◌∷◌, Some, None, Ok, Option, ◌==◌, is_some, option_map}
+use Rattle.std.specs.Option.{option_map_or}
 use Rattle.bounded.specs.declared.bounded.Bounded.{Bounded}
-use Rattle.bounded.specs.Lists.{empty_of, pushed}
+use Rattle.bounded.specs.Lists.{empty_of}
 use Rattle.layout.specs.declared.element.Element.{Element}
 use Rattle.layout.specs.declared.element.Join.{Join}
 use Rattle.layout.specs.declared.kind.Kind.{Kind}
@@ -14,45 +14,44 @@ use Rattle.layout.specs.declared.route.Route.{Route}
 use Rattle.layout.specs.declared.route.RouteClass.{RouteClass}
 use Rattle.layout.specs.declared.route.RouteClass.TheVariants as class
 use Rattle.layout.specs.Numbers.{kind_of, dual_of, sort_of, marks_of, class_of}
-use Rattle.planbytes.specs.Bytes.{and_then, times, byte_at, byte_in}
+use Rattle.planbytes.specs.Bytes.{Read, and_then, byte_at, byte_in}
+use Rattle.planbytes.specs.Items.{items_at}
 
 -- Whether a bit of a map stands, counted from the lowest, bit 0.
 abbrev pub stands : ℕ → ℕ → Bool
 stands map bit = map / 2 ^ bit % 2 == 1
 
+-- A field that is there only where a test holds.
+abbrev pub read_if : {X : Type 0} → Bool → Read X → Read (Option X)
+read_if there read o bs p = cond there (and_then (read o bs p) (λ x q. Ok (Some x, q))) (Ok (None, p))
+
 -- A field of one byte from low to high, there only where its bit stands.
-abbrev pub number_if : ℕ → ℕ → ℕ → ℕ → ℕ → List ℕ → ℕ → Result (Option ℕ × ℕ) Fault
-number_if map bit low high o bs p =
-    cond (stands map bit) (and_then (byte_in low high o bs p) (λ b q. Ok (Some b, q))) (Ok (None, p))
+abbrev pub number_if : ℕ → ℕ → ℕ → ℕ → Read (Option ℕ)
+number_if map bit low high = read_if (stands map bit) (byte_in low high)
 
 -- A join: any element number, then a port.
-abbrev pub join_at : ℕ → List ℕ → ℕ → Result (Join × ℕ) Fault
+abbrev pub join_at : Read Join
 join_at o bs p = and_then (byte_at o bs p) (λ e q. and_then (byte_in 0 2 o bs q) (λ t r. Ok (record { element = e; port = t }, r)))
 
 -- A join, there only where its bit stands.
-abbrev pub join_if : ℕ → ℕ → ℕ → List ℕ → ℕ → Result (Option Join × ℕ) Fault
-join_if map bit o bs p =
-    cond (stands map bit) (and_then (join_at o bs p) (λ j q. Ok (Some j, q))) (Ok (None, p))
+abbrev pub join_if : ℕ → ℕ → Read (Option Join)
+join_if map bit = read_if (stands map bit) join_at
 
 -- No kind field means a track.
 abbrev pub kind_in : Option ℕ → Kind
-kind_in None = kind.Track
-kind_in (Some n) = kind_of n
+kind_in n = option_map_or kind_of n kind.Track
 
 abbrev pub dual_in : Option ℕ → Option Dual
-dual_in None = None
-dual_in (Some n) = Some (dual_of n)
+dual_in = option_map dual_of
 
 abbrev pub sort_in : Option ℕ → Option Sort
-sort_in None = None
-sort_in (Some n) = Some (sort_of n)
+sort_in = option_map sort_of
 
 abbrev pub marks_in : Option ℕ → Option Marks
-marks_in None = None
-marks_in (Some n) = Some (marks_of n)
+marks_in = option_map marks_of
 
 -- An element record: a map, then the fields whose bits stand, in the order of the bits.
-abbrev pub element_at : ℕ → List ℕ → ℕ → Result (Element × ℕ) Fault
+abbrev pub element_at : Read Element
 element_at o bs p =
     and_then (byte_at o bs p) (λ m p₀.
     and_then (number_if m 0 1 4 o bs p₀) (λ k p₁.
@@ -65,34 +64,24 @@ element_at o bs p =
     and_then (number_if m 7 1 3 o bs p₇) (λ w p₈.
     Ok (record { kind = kind_in k; joins = a ∷ b ∷ c ∷ []; section = n; dual = dual_in d; sort = sort_in s; marks = marks_in w }, p₈))))))))))
 
--- One element number more of a list.
-abbrev pub number_step : {N : ℕ} → ℕ → List ℕ → Bounded ℕ N → ℕ → Result (Bounded ℕ N × ℕ) Fault
-number_step o bs ns p = and_then (byte_at o bs p) (λ b q. Ok (pushed ns b, q))
-
 -- A list of element numbers: a count from low to high, then as many bytes.
-abbrev pub numbers_at : {N : ℕ} → ℕ → ℕ → ℕ → List ℕ → ℕ → Result (Bounded ℕ N × ℕ) Fault
-numbers_at low high o bs p = and_then (byte_in low high o bs p) (λ n q. times n (number_step o bs) (empty_of 0) q)
+abbrev pub numbers_at : {N : ℕ} → ℕ → ℕ → Read (Bounded ℕ N)
+numbers_at low high o bs p = and_then (byte_in low high o bs p) (λ n q. items_at byte_at n (empty_of 0) o bs q)
 
 -- A list of element numbers, there only where its bit stands.
-abbrev pub numbers_if : {N : ℕ} → ℕ → ℕ → ℕ → ℕ → ℕ → List ℕ → ℕ → Result (Option (Bounded ℕ N) × ℕ) Fault
-numbers_if map bit low high o bs p =
-    cond (stands map bit) (and_then (numbers_at low high o bs p) (λ ns q. Ok (Some ns, q))) (Ok (None, p))
+abbrev pub numbers_if : {N : ℕ} → ℕ → ℕ → ℕ → ℕ → Read (Option (Bounded ℕ N))
+numbers_if map bit low high = read_if (stands map bit) (numbers_at low high)
 
 -- No class field means a shunting route.
 abbrev pub class_in : Option ℕ → RouteClass
-class_in None = class.Shunting
-class_in (Some n) = class_of n
-
-abbrev pub is_there : {X : Type 0} → Option X → Bool
-is_there None = false
-is_there (Some x) = true
+class_in n = option_map_or class_of n class.Shunting
 
 -- A route record: a map of four bits, then the fields whose bits stand, in the order of the bits.
-abbrev pub route_at : ℕ → List ℕ → ℕ → Result (Route × ℕ) Fault
+abbrev pub route_at : Read Route
 route_at o bs p =
     and_then (byte_in 0 15 o bs p) (λ m p₀.
     and_then (number_if m 0 1 1 o bs p₀) (λ c p₁.
     and_then (numbers_if m 1 3 24 o bs p₁) (λ w p₂.
     and_then (numbers_if m 2 1 8 o bs p₂) (λ v p₃.
     and_then (number_if m 3 1 1 o bs p₃) (λ z p₄.
-    Ok (record { class = class_in c; path = w; overlap = v; zero_overlap = is_there z }, p₄))))))
+    Ok (record { class = class_in c; path = w; overlap = v; zero_overlap = is_some z }, p₄))))))

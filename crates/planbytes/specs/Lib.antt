@@ -1,6 +1,10 @@
 pub mod Bytes
 pub mod Fields
 pub mod Files
-pub mod Parts
+pub mod Items
+pub mod Local
+pub mod Order
 pub mod Records
+pub mod Singles
+pub mod Sizes
 pub mod Took

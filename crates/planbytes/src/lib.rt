@@ -1,6 +1,7 @@
 //! The bytes of a plan file, read into a drawing.
 #![tactic(auto)]
 
+mod map;
+mod part;
 mod reader;
 pub mod reading;
-mod record;

@@ -1,17 +1,21 @@
 //! A reader that steps through bytes.
 
-ghost use Rattle.std.specs.Prelude.{◌+◌, ◌^◌, ◌<◌, ◌≤◌, length};
+ghost use Rattle.std.specs.Prelude.{◌≤◌, length};
 
 pub(crate) mod bytes;
+pub(crate) mod elements;
 pub(crate) mod fields;
+pub(crate) mod items;
+pub(crate) mod recorded;
 pub(crate) mod records;
+pub(crate) mod routes;
 
-/// Steps through bytes that stand at `offset` of the offered ones; `at` of them are taken.
+use crate::part::Part;
+
+/// Steps through a part of the offered bytes; `at` of them are taken.
 #[derive(Drop)]
 pub(crate) struct Reader<'a> {
-    bytes: &'a [u8],
-    offset: usize,
+    part: Part<'a>,
     at: usize,
-    ghost inside: { at ≤ length bytes.now },
-    ghost fits: { offset + length bytes.now < 2 ^ 64 },
+    ghost inside: { at ≤ length part.bytes.now },
 }

@@ -1,11 +1,7 @@
 -- A read that asks for some bytes answers the same on a window that has them as on all the bytes.
-use Rattle.std.proofs.Common.{◌≡◌, ℕ, zero, suc, ◌+◌, ◌-◌, ◌≤◌, min, Bool, true, false, cond, List, length, take, drop, Ok, Err, sym, refl, ap, ◌∙◌, subst, arith}
-use Rattle.planbytes.specs.Bytes.{Reading, and_then, times, ended_at}
+use Rattle.std.proofs.Common.{◌≡◌, ℕ, zero, suc, ◌+◌, ◌-◌, ◌≤◌, min, List, length, take, drop, Ok, Err, sym, refl, ap, ◌∙◌, subst, arith}
+use Rattle.planbytes.specs.Bytes.{Reading, Read, and_then, times, ended_at}
 use Rattle.planbytes.specs.Records.{value_of}
-
--- A read of bytes that stand at an offset, from a place on.
-abbrev pub Read : Type 0 → Type 0
-Read X = ℕ → List ℕ → ℕ → Reading X
 
 -- How many bytes a read asks for, by the bytes and the place before it.
 abbrev pub Width : Type 0
@@ -30,22 +26,12 @@ pub record Local {X : Type 0} (w : Width) (f : Read X) : Type 0 where
 pub wide_local : {X : Type 0} (a b : Width) (f : Read X) → Local a f → ((bs : List ℕ) (p : ℕ) → a bs p ≡ b bs p) → Local b f
 wide_local a b f l same = subst (λ w. Local w f) (λ i bs p. same bs p i) l
 
-abbrev pub place : {X : Type 0} → Reading X → ℕ
-place (Ok v) = v.1
-place (Err f) = 0
-
 -- No byte.
 pub pure_local : {X : Type 0} (v : X) → Local (λ bs p. 0) (λ o bs p. Ok (v, p))
 pure_local v = record {
   same = λ o bs p n i h k. refl;
-  ends = λ o bs p u q h e. let z : p ≡ q = ap place e in (omega arith, omega arith);
+  ends = λ o bs p u q h e. grind arith;
 }
-
--- A read, if a test holds.
-pub if_local : {X : Type 0} (w : Width) (f : Read X) (d : X) (b : Bool) → Local w f
-    → Local (λ bs p. cond b (w bs p) 0) (λ o bs p. cond b (f o bs p) (Ok (d, p)))
-if_local w f d true l = l
-if_local w f d false l = pure_local d
 
 -- A read f, and then one, g, that may go by what was read; c counts the bytes of both.
 module _ {X Y : Type 0} (a : Width) (b : X → Width) (c : Width) (f : Read X) (g : X → Read Y) (lf : Local a f) (lg : (v : X) → Local (b v) (g v))
@@ -61,7 +47,7 @@ module _ {X Y : Type 0} (a : Width) (b : X → Width) (c : Width) (f : Read X) (
 
   then_ends : (o : ℕ) (bs : List ℕ) (p : ℕ) (u : Y) (q : ℕ) → p ≤ length bs
       → (x : Reading X) → f o bs p ≡ x → and_then x (λ v r. g v o bs r) ≡ Ok (u, q) → (q ≡ p + c bs p) × (q ≤ length bs)
-  then_ends o bs p u q h (Err e) s d = let no : ◌≡◌ {A = ℕ} 0 1 = cc in (omega arith, omega arith)
+  then_ends o bs p u q h (Err e) s d = absurd (cc)
   then_ends o bs p u q h (Ok v) s d =
       let e : (v.1 ≡ p + a bs p) × (v.1 ≤ length bs) = lf.ends o bs p v.0 v.1 h s in
       let t : c bs p ≡ a bs p + b v.0 bs v.1 = sum o bs p v.0 v.1 h s in
@@ -101,10 +87,7 @@ times_local f l (suc n) s = then_local (λ bs p. 1) (λ t bs p. n) (λ bs p. suc
 -- As many bytes from p on as a read asks for, or all there are, say what the bytes say there.
 part_ended : {X : Type 0} (w : Width) (f : Read X) → Local w f → (o : ℕ) (bs : List ℕ) (p q : ℕ) → p ≤ length bs
     → q ≡ p + min (w bs p) (length bs - p) → (x : Reading X) → moved p x ≡ f o bs p → ended_at (value_of x) q ≡ moved p x
-part_ended w f l o bs p q h a (Err e) s = refl
-part_ended w f l o bs p q h a (Ok v) s =
-    let e : (p + v.1 ≡ p + w bs p) × (p + v.1 ≤ length bs) = l.ends o bs p v.0 (p + v.1) h (sym s) in
-    let z : q ≡ p + v.1 = omega (arith, e.0, e.1) in cc
+part_ended w f l o bs p q h a x s = grind (arith, l.ends o bs p)
 
 pub part_says : {X : Type 0} (w : Width) (f : Read X) → Local w f → (o : ℕ) (bs : List ℕ) (p n q : ℕ) → p ≤ length bs
     → n ≡ min (w bs p) (length bs - p) → q ≡ p + n → ended_at (value_of (f (o + p) (take n (drop p bs)) 0)) q ≡ f o bs p
