@@ -1,12 +1,21 @@
 -- One entry more of a journal is answered, and what is left comes to the same end.
 use Rattle.std.proofs.Common.{◌≡◌, ℕ, ◌+◌, ◌<◌, ◌≤◌, List, [], ◌∷◌, ◌++◌, length, get_or, take, drop, set, fold, sym, refl, ap, ◌∙◌, append_assoc, append-nil, add-one, arith, take-suc-set}
 use Rattle.std.proofs.lemmas.List.{drop_more, drop_all, drop-set-lt, take_all}
+use Rattle.std.specs.Prelude.{Result, Ok, Err}
+use Rattle.std.specs.Result.{result_err}
+use Rattle.refusals.specs.declared.refusal.Refusal.{Refusal}
+use Rattle.refusals.specs.Numbers.{refusal_in}
 use Rattle.layout.specs.declared.drawing.Drawing.{Drawing}
 use Rattle.sheets.specs.Sheets.{sheets_of}
 use Rattle.acts.specs.Situations.{Situation}
 use Rattle.acts.specs.Acts.{performed}
 use Rattle.station.specs.declared.journal.Entry.{Entry}
 use Rattle.station.specs.Runs.{acts_in, answered_in, answered}
+
+-- the error of a result is the refusal in it
+pub err_is : {X : Type 0} (r : Result X Refusal) → result_err r ≡ refusal_in r
+err_is (Ok x) = refl
+err_is (Err r) = refl
 
 -- what is left of a run
 abbrev pub ends : Drawing → Situation → List Entry → Situation
@@ -44,9 +53,6 @@ module _ (d : Drawing) (s after : Situation) (journal : List Entry) (k : ℕ) (b
       ∙ (sym (answered_more d s (get_or journal k blank) (drop (k + 1) journal)) ∙ sym (ap (answered d s) (drop_more journal k blank below)))))))
 
 module _ (d : Drawing) (s : Situation) (journal : List Entry) (k : ℕ) (past : length journal ≤ k) where
-  pub ends_all : ends d s (drop k journal) ≡ s
-  ends_all = ap (ends d s) (drop_all k journal past)
-
   pub answers_all : take k journal ++ answered d s (drop k journal) ≡ journal
   answers_all =
       ap (λ (xs : List Entry). take k journal ++ answered d s xs) (drop_all k journal past)
