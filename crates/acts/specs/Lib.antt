@@ -3,3 +3,4 @@ pub mod Orders
 pub mod Answers
 pub mod Acts
 pub mod Questions
+pub mod Performing

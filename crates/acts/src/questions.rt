@@ -13,10 +13,9 @@ use sheets::sheet::Sheets;
 pub fn state(sheets: &Sheets, interlocking: &Interlocking, route: u8) -> Result<RouteState, Refusal>
     ensures { result ≡ state_answer sheets.now interlocking.now route }
 {
-    match sheets.route(route as usize) {
-        Some(_) => Ok(interlocking.state(route as usize)),
-        None => Err(Refusal::NoSuchRoute),
-    }
+    let route = usize::from(route);
+    sheets.route(route).ok_or(Refusal::NoSuchRoute)?;
+    Ok(interlocking.state(route))
 }
 
 /// The aspect of a signal.

@@ -5,7 +5,7 @@ ghost use Rattle.refusals.specs.Numbers.{refusal_in};
 ghost use Rattle.acts.specs.Answers.{path_free_at, path_free, release_refusal};
 
 use field::field::Field;
-use holds::interlocking::Interlocking;
+use readiness::yard::Yard;
 use refusals::refusal::Refusal;
 use sheets::sheet::RouteSheet;
 
@@ -20,27 +20,24 @@ fn is_path_free_at<F: Field>(sheet: &RouteSheet, field: &F, section: u8) -> bool
 fn is_path_free<F: Field>(sheet: &RouteSheet, field: &F) -> bool
     ensures { result ≡ path_free sheet.now (F.meaning field.now) }
 {
-    let used = sheet.used.as_slice();
-    for section in used {
-        if !is_path_free_at(sheet, field, *section) {
-            return false;
-        }
-    }
-    true
+    sheet
+        .used
+        .as_slice()
+        .iter()
+        .all(|section| is_path_free_at(sheet, field, *section))
 }
 
 /// Whether a route of the plan may be released, and if not, why.
 pub(crate) fn may_release<F: Field>(
     sheet: &RouteSheet,
-    interlocking: &Interlocking,
-    field: &F,
+    yard: &Yard<F>,
     route: usize,
 ) -> Result<(), Refusal>
-    ensures { refusal_in result ≡ release_refusal sheet.now route interlocking.now (F.meaning field.now) }
+    ensures { refusal_in result ≡ release_refusal sheet.now route yard.now.interlocking (F.meaning yard.now.field) }
 {
-    if !interlocking.state(route).stands() {
+    if !yard.interlocking.state(route).stands() {
         Err(Refusal::NotStanding)
-    } else if !is_path_free(sheet, field) {
+    } else if !is_path_free(sheet, &yard.field) {
         Err(Refusal::PathOccupied)
     } else {
         Ok(())

@@ -1,75 +1,80 @@
--- The start, a turn and the end of the loops that settle.
-use Rattle.std.proofs.Common.{◌≡◌, ℕ, zero, suc, ◌+◌, ◌-◌, ◌<◌, ◌≤◌, true, false, refl, ap, ◌∙◌, add-one, arith}
+-- The start, a turn and the end of the loops that settle, whichever way.
+use Rattle.std.proofs.Common.{◌≡◌, ℕ, zero, suc, ◌+◌, ◌-◌, ◌<◌, ◌≤◌, Bool, true, false, not, ◌&&◌, ◌||◌, refl, sym, ap, ◌∙◌, add-one, arith}
+use Rattle.std.specs.List.{list_all, enumerate_from}
+use Rattle.bounded.specs.Lists.{listed}
+use Rattle.layout.specs.Every.{every}
 use Rattle.field.specs.Meaning.{Meaning}
+use Rattle.sheets.specs.declared.sheet.RouteSheet.{RouteSheet}
 use Rattle.sheets.specs.declared.sheet.Sheets.{Sheets}
-use Rattle.sheets.specs.Reading.{route_count}
+use Rattle.sheets.specs.Reading.{route_count, route_sheet, past_the_end}
 use Rattle.holds.specs.declared.interlocking.Interlocking.{Interlocking}
-use Rattle.readiness.specs.Settling.{drop_one, drop_pass, all_keep, drops_until, raise_one, raise_pass, all_rest, raises_until}
+use Rattle.holds.specs.States.{is_waiting}
+use Rattle.holds.specs.Interlockings.{state_of}
+use Rattle.readiness.specs.declared.settling.Settling.{Settling}
+use Rattle.readiness.specs.declared.settling.Settling.TheVariants.{Dropping, Raising}
+use Rattle.readiness.specs.Readiness.{ready}
+use Rattle.readiness.specs.Settling.{drop_pass, all_keep, drops_until, raise_pass, all_rest, raises_until}
+use Rattle.readiness.specs.DropsAndRaises.{settle_one, stays, pass, all_stay, passes_until}
+use Rattle.readiness.proofs.Alls.{numbered_all}
 
-pub drop_pass_none : (t : Sheets) (m : Meaning) (i : Interlocking) → drop_pass t m i 0 ≡ i
-unfolding drop_pass
-drop_pass_none t m i = refl
+pub pass_none : (w : Settling) (t : Sheets) (m : Meaning) (i : Interlocking) → pass w t m i 0 ≡ i
+unfolding drop_pass raise_pass
+pass_none Dropping t m i = refl
+pass_none Raising t m i = refl
 
-pub drop_pass_more : (t : Sheets) (m : Meaning) (i : Interlocking) (n : ℕ) → drop_pass t m i (n + 1) ≡ drop_one t m (drop_pass t m i n) n
-unfolding drop_pass
-drop_pass_more t m i n = rw add-one
+pub pass_more :
+    (w : Settling) (t : Sheets) (m : Meaning) (i : Interlocking) (n : ℕ)
+    → pass w t m i (n + 1) ≡ settle_one w t m (pass w t m i n) (route_sheet t n) n
+unfolding drop_pass raise_pass
+pass_more Dropping t m i n = rw add-one
+pass_more Raising t m i n = rw add-one
 
--- nothing is done yet
-pub drops_until_none : (t : Sheets) (m : Meaning) (i : Interlocking) (n : ℕ) → drops_until t m i (n - 0) ≡ drops_until t m i n
-drops_until_none t m i n = let at : n - 0 ≡ n = omega arith in ap (drops_until t m i) at
+-- not both is either not
+not_both : (a b : Bool) → not (a && b) ≡ not a || not b
+not_both true b = refl
+not_both false b = refl
+
+all_stay_is :
+    (w : Settling) (t : Sheets) (m : Meaning) (i : Interlocking)
+    → all_stay w t m i ≡ every (λ r. stays w t m i (route_sheet t r) r) (route_count t) 0
+unfolding all_keep all_rest
+all_stay_is Dropping t m i = refl
+all_stay_is Raising t m i = λ k. every (λ r. not_both (is_waiting (state_of i r)) (ready t i m r) k) (route_count t) 0
+
+-- all sheets with their numbers, one after another
+pub all_stay_numbered :
+    (w : Settling) (t : Sheets) (m : Meaning) (i : Interlocking)
+    → list_all (λ (p : ℕ × RouteSheet). stays w t m i p.1 p.0) (enumerate_from 0 (listed t.routes)) ≡ all_stay w t m i
+all_stay_numbered w t m i =
+    numbered_all (λ (p : ℕ × RouteSheet). stays w t m i p.1 p.0) (λ r. stays w t m i (route_sheet t r) r) 0 (listed t.routes) past_the_end
+    (λ j l. let e : 0 + j ≡ j = omega arith in rw e)
+    ∙ sym (all_stay_is w t m i)
+
+until_zero : (w : Settling) (t : Sheets) (m : Meaning) (i : Interlocking) → passes_until w t m i 0 ≡ i
+unfolding drops_until raises_until
+until_zero Dropping t m i = refl
+until_zero Raising t m i = refl
+
+until_suc :
+    (w : Settling) (t : Sheets) (m : Meaning) (i : Interlocking) (n : ℕ)
+    → passes_until w t m i (suc n) ≡ elim (all_stay w t m i) [ true ↦ i | false ↦ passes_until w t m (pass w t m i (route_count t)) n ]
+unfolding drops_until raises_until
+until_suc Dropping t m i n = refl
+until_suc Raising t m i n = refl
 
 -- all is done
-pub drops_until_stop : (t : Sheets) (m : Meaning) (i : Interlocking) (n : ℕ) → all_keep t m i ≡ true → drops_until t m i n ≡ i
-unfolding drops_until
-drops_until_stop t m i zero h = refl
-drops_until_stop t m i (suc n) h = rw (h, drops_until)
-
-drops_until_suc : (t : Sheets) (m : Meaning) (i : Interlocking) (n : ℕ) → all_keep t m i ≡ false
-    → drops_until t m i (suc n) ≡ drops_until t m (drop_pass t m i (route_count t)) n
-unfolding drops_until
-drops_until_suc t m i n h = rw (h, drops_until)
+pub until_stop : (w : Settling) (t : Sheets) (m : Meaning) (i : Interlocking) (n : ℕ) → all_stay w t m i ≡ true → passes_until w t m i n ≡ i
+until_stop w t m i zero h = until_zero w t m i
+until_stop w t m i (suc n) h = until_suc w t m i n ∙ rw h
 
 -- one pass more
-pub drops_until_more : (t : Sheets) (m : Meaning) (i : Interlocking) (most n : ℕ) → n < most → all_keep t m i ≡ false
-    → drops_until t m i (most - n) ≡ drops_until t m (drop_pass t m i (route_count t)) (most - (n + 1))
-drops_until_more t m i most n l h =
-    let at : most - n ≡ suc (most - (n + 1)) = omega arith in ap (drops_until t m i) at ∙ drops_until_suc t m i (most - (n + 1)) h
+pub until_more :
+    (w : Settling) (t : Sheets) (m : Meaning) (i : Interlocking) (most n : ℕ) → n < most → all_stay w t m i ≡ false
+    → passes_until w t m i (most - n) ≡ passes_until w t m (pass w t m i (route_count t)) (most - (n + 1))
+until_more w t m i most n l h =
+    let at : most - n ≡ suc (most - (n + 1)) = omega arith in
+    ap (passes_until w t m i) at ∙ (until_suc w t m i (most - (n + 1)) ∙ rw h)
 
 -- all passes are used up
-pub drops_until_end : (t : Sheets) (m : Meaning) (i : Interlocking) (most n : ℕ) → most ≤ n → drops_until t m i (most - n) ≡ i
-unfolding drops_until
-drops_until_end t m i most n l = let at : most - n ≡ 0 = omega arith in ap (drops_until t m i) at
-
-pub raise_pass_none : (t : Sheets) (m : Meaning) (i : Interlocking) → raise_pass t m i 0 ≡ i
-unfolding raise_pass
-raise_pass_none t m i = refl
-
-pub raise_pass_more : (t : Sheets) (m : Meaning) (i : Interlocking) (n : ℕ) → raise_pass t m i (n + 1) ≡ raise_one t m (raise_pass t m i n) n
-unfolding raise_pass
-raise_pass_more t m i n = rw add-one
-
--- nothing is done yet
-pub raises_until_none : (t : Sheets) (m : Meaning) (i : Interlocking) (n : ℕ) → raises_until t m i (n - 0) ≡ raises_until t m i n
-raises_until_none t m i n = let at : n - 0 ≡ n = omega arith in ap (raises_until t m i) at
-
--- all is done
-pub raises_until_stop : (t : Sheets) (m : Meaning) (i : Interlocking) (n : ℕ) → all_rest t m i ≡ true → raises_until t m i n ≡ i
-unfolding raises_until
-raises_until_stop t m i zero h = refl
-raises_until_stop t m i (suc n) h = rw (h, raises_until)
-
-raises_until_suc : (t : Sheets) (m : Meaning) (i : Interlocking) (n : ℕ) → all_rest t m i ≡ false
-    → raises_until t m i (suc n) ≡ raises_until t m (raise_pass t m i (route_count t)) n
-unfolding raises_until
-raises_until_suc t m i n h = rw (h, raises_until)
-
--- one pass more
-pub raises_until_more : (t : Sheets) (m : Meaning) (i : Interlocking) (most n : ℕ) → n < most → all_rest t m i ≡ false
-    → raises_until t m i (most - n) ≡ raises_until t m (raise_pass t m i (route_count t)) (most - (n + 1))
-raises_until_more t m i most n l h =
-    let at : most - n ≡ suc (most - (n + 1)) = omega arith in ap (raises_until t m i) at ∙ raises_until_suc t m i (most - (n + 1)) h
-
--- all passes are used up
-pub raises_until_end : (t : Sheets) (m : Meaning) (i : Interlocking) (most n : ℕ) → most ≤ n → raises_until t m i (most - n) ≡ i
-unfolding raises_until
-raises_until_end t m i most n l = let at : most - n ≡ 0 = omega arith in ap (raises_until t m i) at
+pub until_end : (w : Settling) (t : Sheets) (m : Meaning) (i : Interlocking) (most n : ℕ) → most ≤ n → passes_until w t m i (most - n) ≡ i
+until_end w t m i most n l = let at : most - n ≡ 0 = omega arith in ap (passes_until w t m i) at ∙ until_zero w t m i

@@ -1,5 +1,7 @@
 //! When a route is ready, and what settles after every accepted act.
 #![tactic(auto)]
 
+mod passes;
 mod readiness;
-pub mod settling;
+mod settling;
+pub mod yard;

@@ -1,12 +1,21 @@
 -- One entry more of a journal is answered, and what is left comes to the same end.
-use Rattle.std.proofs.Common.{◌≡◌, ℕ, ◌+◌, ◌<◌, ◌≤◌, List, [], ◌∷◌, ◌++◌, length, get_or, take, drop, set, fold, sym, refl, ap, ◌∙◌, append_assoc, append-nil, add-one, arith, take-suc-set}
-use Rattle.std.proofs.lemmas.List.{drop_more, drop_all, drop-set-lt, take_all}
+use Rattle.std.proofs.Common.{◌≡◌, ℕ, ◌+◌, ◌<◌, ◌≤◌, List, [], ◌∷◌, ◌++◌, length, get_or, take, drop, set, fold, refl, append_assoc, append-nil, arith}
+use Rattle.std.proofs.lemmas.List.{drop_more, drop_all, drop-set-lt, take_all, take_more_set}
+use Rattle.std.specs.Prelude.{Result, Ok, Err}
+use Rattle.std.specs.Result.{result_err}
+use Rattle.refusals.specs.declared.refusal.Refusal.{Refusal}
+use Rattle.refusals.specs.Numbers.{refusal_in}
 use Rattle.layout.specs.declared.drawing.Drawing.{Drawing}
 use Rattle.sheets.specs.Sheets.{sheets_of}
 use Rattle.acts.specs.Situations.{Situation}
 use Rattle.acts.specs.Acts.{performed}
 use Rattle.station.specs.declared.journal.Entry.{Entry}
 use Rattle.station.specs.Runs.{acts_in, answered_in, answered}
+
+-- the error of a result is the refusal in it
+pub err_is : {X : Type 0} (r : Result X Refusal) → result_err r ≡ refusal_in r
+err_is (Ok x) = refl
+err_is (Err r) = refl
 
 -- what is left of a run
 abbrev pub ends : Drawing → Situation → List Entry → Situation
@@ -27,27 +36,20 @@ module _ (d : Drawing) (s after : Situation) (journal : List Entry) (k : ℕ) (b
   rest = drop-set-lt (k + 1) journal k new (omega arith)
 
   pub ends_more : ends d after (drop (k + 1) (set journal k new)) ≡ ends d s (drop k journal)
-  ends_more =
-      ap (ends d after) rest ∙ (ap (λ (u : Situation). ends d u (drop (k + 1) journal)) next ∙ sym (ap (ends d s) (drop_more journal k blank below)))
-
-  first_part : take (k + 1) (set journal k new) ≡ take k journal ++ (new ∷ [])
-  first_part = ap (λ n. take n (set journal k new)) (add-one k) ∙ take-suc-set journal k new below
+  ends_more = let entry = drop_more journal k blank below in rw (rest, next, entry)
 
   pub answers_more : take (k + 1) (set journal k new) ++ answered d after (drop (k + 1) (set journal k new)) ≡ take k journal ++ answered d s (drop k journal)
   answers_more =
-      ap (λ (xs : List Entry). xs ++ answered d after (drop (k + 1) (set journal k new))) first_part
-      ∙ (append_assoc (take k journal) (new ∷ []) (answered d after (drop (k + 1) (set journal k new)))
-      ∙ ap (λ (xs : List Entry). take k journal ++ xs)
-      (ap (λ (xs : List Entry). new ∷ answered d after xs) rest
-      ∙ (ap (λ (u : Situation). new ∷ answered d u (drop (k + 1) journal)) next
-      ∙ (ap (λ (e : Entry). e ∷ answered d (performed (sheets_of d) s (get_or journal k blank).act) (drop (k + 1) journal)) is
-      ∙ (sym (answered_more d s (get_or journal k blank) (drop (k + 1) journal)) ∙ sym (ap (answered d s) (drop_more journal k blank below)))))))
+      let front = take_more_set journal k new below in
+      let entry = drop_more journal k blank below in
+      let answer = answered_more d s (get_or journal k blank) (drop (k + 1) journal) in
+      let joined = append_assoc (take k journal) (new ∷ []) (answered d after (drop (k + 1) journal)) in
+      cc (rest, front, entry, answer, joined, is, next)
 
-module _ (d : Drawing) (s : Situation) (journal : List Entry) (k : ℕ) (past : length journal ≤ k) where
-  pub ends_all : ends d s (drop k journal) ≡ s
-  ends_all = ap (ends d s) (drop_all k journal past)
-
-  pub answers_all : take k journal ++ answered d s (drop k journal) ≡ journal
-  answers_all =
-      ap (λ (xs : List Entry). take k journal ++ answered d s xs) (drop_all k journal past)
-      ∙ (ap (λ (xs : List Entry). take k journal ++ xs) (answered_none d s) ∙ (append-nil (take k journal) ∙ take_all k journal past))
+-- once the journal is at its end
+pub answers_all :
+    (d : Drawing) (s : Situation) (journal : List Entry) (k : ℕ) → length journal ≤ k → take k journal ++ answered d s (drop k journal) ≡ journal
+answers_all d s journal k past =
+    let all = drop_all k journal past in
+    let front = take_all k journal past in
+    cc (all, front, answered_none d s, append-nil (take k journal))

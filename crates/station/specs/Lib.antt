@@ -1,2 +1,3 @@
+pub mod Performing
 pub mod Protection
 pub mod Runs

@@ -7,6 +7,7 @@ use crate::open_station::OpenStation;
 use field::field::Field;
 use holds::interlocking::Interlocking;
 use plan::plan::Plan;
+use readiness::yard::Yard;
 
 /// A closed station: its plan and its field, to be opened or taken apart.
 pub struct ClosedStation<F> {
@@ -18,14 +19,16 @@ impl<F: Field> ClosedStation<F> {
     /// Opens the station: nothing is held, and all routes are absent.
     pub fn open(self) -> OpenStation<F>
         ensures plan { result.plan ≡ self.plan }
-        ensures interlocking { result.interlocking ≡ idle }
-        ensures field { result.field ≡ self.field }
+        ensures interlocking { result.yard.interlocking ≡ idle }
+        ensures field { result.yard.field ≡ self.field }
     {
         let ClosedStation { plan, field } = self;
         OpenStation {
             plan,
-            interlocking: Interlocking::idle(),
-            field,
+            yard: Yard {
+                interlocking: Interlocking::idle(),
+                field,
+            },
         }
     }
 }

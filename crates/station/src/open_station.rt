@@ -1,16 +1,13 @@
 //! A station that is open.
 
 ghost use Rattle.std.specs.Prelude.{◌≡◌};
-ghost use Rattle.refusals.specs.Numbers.{refusal_in};
 ghost use Rattle.sheets.specs.Sheets.{sheets_of};
-ghost use Rattle.acts.specs.Situations.{situation};
-ghost use Rattle.acts.specs.Answers.{answer};
-ghost use Rattle.acts.specs.Acts.{performed};
 ghost use Rattle.acts.specs.Questions.{state_answer, aspect_answer};
 ghost use Rattle.acts.specs.declared.act.Act.TheVariants.{Set, Clear, Release, Tell};
 ghost use Rattle.runlaws.specs.Settled.{SettlingIsExact};
 ghost use Rattle.safety.specs.Setting.{SetExactly, SameOnEveryField, RefusedChangesNothing};
 ghost use Rattle.safety.specs.Ready.{ReadyExactly, SettledAfter};
+ghost use Rattle.station.specs.Performing.{Performs};
 ghost use Rattle.station.specs.Protection.{protection_answer, protection_shields, protection_branches};
 
 use crate::closed::ClosedStation;
@@ -21,30 +18,29 @@ use acts::questions::{aspect, state};
 use field::field::Field;
 use flank::answers::Branch;
 use holds::aspect::Aspect;
-use holds::interlocking::Interlocking;
 use holds::state::RouteState;
 use plan::plan::Plan;
 use protection::shield::Shield;
+use readiness::yard::Yard;
 use refusals::refusal::Refusal;
 
 /// An open station: it has its plan and its field to itself until it is closed.
 pub struct OpenStation<F> {
     pub(crate) plan: Plan,
-    pub(crate) interlocking: Interlocking,
-    pub(crate) field: F,
+    pub(crate) yard: Yard<F>,
 }
 
 impl<F: Field> OpenStation<F> {
     /// Closes the station and hands plan and field back.
     pub fn close(self) -> ClosedStation<F>
         ensures plan { result.plan ≡ self.plan }
-        ensures field { result.field ≡ self.field }
+        ensures field { result.field ≡ self.yard.field }
     {
-        let OpenStation {
-            plan,
+        let OpenStation { plan, yard } = self;
+        let Yard {
             interlocking: _,
             field,
-        } = self;
+        } = yard;
         ClosedStation { plan, field }
     }
 
@@ -57,30 +53,21 @@ impl<F: Field> OpenStation<F> {
 
     /// The field, for display.
     pub fn field(&self) -> &F
-        ensures { result.now ≡ self.now.field }
+        ensures { result.now ≡ self.now.yard.field }
     {
-        &self.field
+        &self.yard.field
     }
 
     /// Performs an act, or says why not.
     pub(crate) fn carry_out(&mut self, act: Act) -> Result<(), Refusal>
-        ensures answer { refusal_in result ≡ answer (sheets_of self.old.plan.drawing) (situation self.old.interlocking (F.meaning self.old.field)) act }
-        ensures situation { situation self.new.interlocking (F.meaning self.new.field) ≡ performed (sheets_of self.old.plan.drawing) (situation self.old.interlocking (F.meaning self.old.field)) act }
-        ensures plan { self.new.plan.drawing ≡ self.old.plan.drawing }
+        ensures { Performs F.meaning self.old self.new act result }
     {
-        perform(
-            self.plan.sheets(),
-            &mut self.interlocking,
-            &mut self.field,
-            act,
-        )
+        perform(self.plan.sheets(), &mut self.yard, act)
     }
 
     /// Performs an act, or says why not. A refused act changes nothing, after an accepted one all is settled, and no want of protection refuses a set.
     pub fn perform(&mut self, act: Act) -> Result<(), Refusal>
-        ensures answer { refusal_in result ≡ answer (sheets_of self.old.plan.drawing) (situation self.old.interlocking (F.meaning self.old.field)) act }
-        ensures situation { situation self.new.interlocking (F.meaning self.new.field) ≡ performed (sheets_of self.old.plan.drawing) (situation self.old.interlocking (F.meaning self.old.field)) act }
-        ensures plan { self.new.plan.drawing ≡ self.old.plan.drawing }
+        ensures performed { Performs F.meaning self.old self.new act result }
         ensures set { SetExactly self.old.plan.drawing }
         ensures field { SameOnEveryField self.old.plan.drawing }
         ensures refused { RefusedChangesNothing self.old.plan.drawing }
@@ -93,52 +80,44 @@ impl<F: Field> OpenStation<F> {
 
     /// Sets a route.
     pub fn set(&mut self, route: u8) -> Result<(), Refusal>
-        ensures answer { refusal_in result ≡ answer (sheets_of self.old.plan.drawing) (situation self.old.interlocking (F.meaning self.old.field)) (Set route) }
-        ensures situation { situation self.new.interlocking (F.meaning self.new.field) ≡ performed (sheets_of self.old.plan.drawing) (situation self.old.interlocking (F.meaning self.old.field)) (Set route) }
-        ensures plan { self.new.plan.drawing ≡ self.old.plan.drawing }
+        ensures { Performs F.meaning self.old self.new (Set route) result }
     {
         self.carry_out(Act::Set { route })
     }
 
     /// Clears a route: dropped, it waits again.
     pub fn clear(&mut self, route: u8) -> Result<(), Refusal>
-        ensures answer { refusal_in result ≡ answer (sheets_of self.old.plan.drawing) (situation self.old.interlocking (F.meaning self.old.field)) (Clear route) }
-        ensures situation { situation self.new.interlocking (F.meaning self.new.field) ≡ performed (sheets_of self.old.plan.drawing) (situation self.old.interlocking (F.meaning self.old.field)) (Clear route) }
-        ensures plan { self.new.plan.drawing ≡ self.old.plan.drawing }
+        ensures { Performs F.meaning self.old self.new (Clear route) result }
     {
         self.carry_out(Act::Clear { route })
     }
 
     /// Releases a route.
     pub fn release(&mut self, route: u8) -> Result<(), Refusal>
-        ensures answer { refusal_in result ≡ answer (sheets_of self.old.plan.drawing) (situation self.old.interlocking (F.meaning self.old.field)) (Release route) }
-        ensures situation { situation self.new.interlocking (F.meaning self.new.field) ≡ performed (sheets_of self.old.plan.drawing) (situation self.old.interlocking (F.meaning self.old.field)) (Release route) }
-        ensures plan { self.new.plan.drawing ≡ self.old.plan.drawing }
+        ensures { Performs F.meaning self.old self.new (Release route) result }
     {
         self.carry_out(Act::Release { route })
     }
 
     /// Takes an event: the field is told.
     pub fn take(&mut self, event: Event) -> Result<(), Refusal>
-        ensures answer { refusal_in result ≡ answer (sheets_of self.old.plan.drawing) (situation self.old.interlocking (F.meaning self.old.field)) (Tell event) }
-        ensures situation { situation self.new.interlocking (F.meaning self.new.field) ≡ performed (sheets_of self.old.plan.drawing) (situation self.old.interlocking (F.meaning self.old.field)) (Tell event) }
-        ensures plan { self.new.plan.drawing ≡ self.old.plan.drawing }
+        ensures { Performs F.meaning self.old self.new (Tell event) result }
     {
         self.carry_out(Act::Tell { event })
     }
 
     /// The state of a route.
     pub fn state(&self, route: u8) -> Result<RouteState, Refusal>
-        ensures { result ≡ state_answer (sheets_of self.now.plan.drawing) self.now.interlocking route }
+        ensures { result ≡ state_answer (sheets_of self.now.plan.drawing) self.now.yard.interlocking route }
     {
-        state(self.plan.sheets(), &self.interlocking, route)
+        state(self.plan.sheets(), &self.yard.interlocking, route)
     }
 
     /// The aspect of a signal.
     pub fn aspect(&self, signal: u8) -> Result<Aspect, Refusal>
-        ensures { result ≡ aspect_answer (sheets_of self.now.plan.drawing) self.now.interlocking signal }
+        ensures { result ≡ aspect_answer (sheets_of self.now.plan.drawing) self.now.yard.interlocking signal }
     {
-        aspect(self.plan.sheets(), &self.interlocking, signal)
+        aspect(self.plan.sheets(), &self.yard.interlocking, signal)
     }
 
     /// Fills two lists with what a route requests at its flanks, by element, each held by it or not, and with its open branches, by
@@ -149,13 +128,13 @@ impl<F: Field> OpenStation<F> {
         shields: &mut [Shield],
         branches: &mut [Branch],
     ) -> Result<(usize, usize), Refusal>
-        ensures answer { result ≡ protection_answer self.now.plan.drawing self.now.interlocking route shields.old branches.old }
-        ensures shields { shields.new ≡ protection_shields self.now.plan.drawing self.now.interlocking route shields.old branches.old }
-        ensures branches { branches.new ≡ protection_branches self.now.plan.drawing self.now.interlocking route shields.old branches.old }
+        ensures answer { result ≡ protection_answer self.now.plan.drawing self.now.yard.interlocking route shields.old branches.old }
+        ensures shields { shields.new ≡ protection_shields self.now.plan.drawing self.now.yard.interlocking route shields.old branches.old }
+        ensures branches { branches.new ≡ protection_branches self.now.plan.drawing self.now.yard.interlocking route shields.old branches.old }
     {
         protection_on(
             self.plan.drawing(),
-            &self.interlocking,
+            &self.yard.interlocking,
             route,
             shields,
             branches,

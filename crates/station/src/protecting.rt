@@ -22,20 +22,9 @@ pub(crate) fn protection_on(
     ensures shields { shields.new ≡ protection_shields drawing.now interlocking.now route shields.old branches.old }
     ensures branches { branches.new ≡ protection_branches drawing.now interlocking.now route shields.old branches.old }
 {
+    let elements = drawing.elements.as_slice();
     let routes = drawing.routes.as_slice();
-    let place = route as usize;
-    if place >= routes.len() {
-        return Err(Refusal::NoSuchRoute);
-    }
-    match protection(
-        drawing.elements.as_slice(),
-        &routes[place],
-        interlocking,
-        place,
-        shields,
-        branches,
-    ) {
-        Some(counts) => Ok(counts),
-        None => Err(Refusal::ListTooShort),
-    }
+    let place = usize::from(route);
+    let drawn = routes.get(place).ok_or(Refusal::NoSuchRoute)?;
+    protection(elements, drawn, interlocking, place, shields, branches).ok_or(Refusal::ListTooShort)
 }

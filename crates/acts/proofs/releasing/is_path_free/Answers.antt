@@ -1,20 +1,13 @@
-use Rattle.std.proofs.Common.{rules}
-use Rattle.std.proofs.lemmas.List.{at_drop_more, at_drop_all}
-use Rattle.sheets.specs.Lists.{all_of}
+use Rattle.std.proofs.Common.{◌∙◌, rules, tests}
+use Rattle.std.proofs.lemmas.Iterator.{YieldsList-from_slice}
+use Rattle.std.proofs.lemmas.Iterator.Search.{all_from_yields_List}
+use Rattle.sheets.specs.Reading.{used_by}
+use Rattle.readiness.proofs.Alls.{list_all_is}
 use Rattle.acts.specs.Answers.{path_free_at}
 use Rattle.acts.proofs.releasing.is_path_free.Goals as goal
 
-pub returns-then-not-is_path_free_at : goal.returns-then-not-is_path_free_at
-returns-then-not-is_path_free_at g c =
-    let more = at_drop_more (all_of (path_free_at c.args.sheet.now (g.F.Field.meaning c.args.field.now))) c.as_slice-used.result.now c.loop-section.section-index 0 c.loop-section-test.true in
-    search rules
-
-pub loop-section-preserved : goal.loop-section-preserved
-loop-section-preserved g c =
-    let more = at_drop_more (all_of (path_free_at c.args.sheet.now (g.F.Field.meaning c.args.field.now))) c.as_slice-used.result.now c.loop-section.section-index 0 c.loop-section-test.true in
-    search rules
-
 pub returns : goal.returns
 returns g c =
-    let all = at_drop_all (all_of (path_free_at c.args.sheet.now (g.F.Field.meaning c.args.field.now))) c.as_slice-used.result.now c.loop-section.section-index c.loop-section-test.false in
-    search rules
+    let sheet = c.args.sheet.now in
+    let test = path_free_at sheet (g.F.Field.meaning c.args.field.now) in
+    all_from_yields_List test _ _ _ c.all.ensures.ran (YieldsList-from_slice (used_by sheet) cc) (λ x b q k. search (rules, tests)) ∙ list_all_is test (used_by sheet)

@@ -10,9 +10,7 @@ returns g c =
     let d = c.args.self.now.plan.drawing in
     let sound = (checks_exact d).0 c.args.self.now.plan.sound in
     record {
-      answer = c.carry_out.ensures.answer;
-      situation = c.carry_out.ensures.situation;
-      plan = c.carry_out.ensures.plan;
+      performed = c.carry_out.ensures;
       set = set_exactly d sound;
       field = same_on_every_field d sound;
       refused = refused_changes_nothing d sound;
