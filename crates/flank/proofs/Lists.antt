@@ -1,5 +1,5 @@
 -- Answers written into the first places of a list, one table place after another.
-use Rattle.std.proofs.Common.{◌≡◌, ℕ, zero, suc, ◌+◌, ◌*◌, ◌<◌, ◌≤◌, Bool, true, false, cond, List, [], ◌∷◌, ◌++◌, length, get_or, drop, set, Some, sym, refl, ap, ◌∙◌, append_assoc, append-nil, add-zero, add-one, arith, length-append, drop-cons}
+use Rattle.std.proofs.Common.{◌≡◌, ℕ, zero, suc, ◌+◌, ◌*◌, ◌<◌, ◌≤◌, Bool, true, false, cond, List, [], ◌∷◌, ◌++◌, length, get_or, drop, set, sym, refl, ap, ◌∙◌, append_assoc, append-nil, add-zero, add-one, arith, length-append, drop-cons}
 use Rattle.std.proofs.lemmas.Bool.{and_from, le-leb}
 use Rattle.layout.specs.declared.element.Element.{Element}
 use Rattle.layout.specs.declared.position.Position.TheVariants as position
@@ -8,10 +8,10 @@ use Rattle.flank.specs.declared.answers.Mark.{Mark}
 use Rattle.flank.specs.declared.answers.Request.{Request}
 use Rattle.flank.specs.declared.answers.Branch.{Branch}
 use Rattle.flank.specs.Search.{unmarked}
-use Rattle.flank.specs.Protection.{request, branch, requests_at, requests_in, branch_at, branches_in, marks_of, branches_below, route_marks, requests_of, branches_of, filled, put_at, fits, counts_told, requests_told, branches_told}
+use Rattle.flank.specs.Protection.{request, branch, requests_at, requests_in, branch_at, branches_in, marks_of, branches_below, requests_of, branches_of, filled, put_at, have_room, list_filled}
 
 module _ {A : Type 0} where
-  put_append : (xs ys list : List A) (n : ℕ) → put_at (xs ++ ys) n list ≡ put_at ys (n + length xs) (put_at xs n list)
+  pub put_append : (xs ys list : List A) (n : ℕ) → put_at (xs ++ ys) n list ≡ put_at ys (n + length xs) (put_at xs n list)
   put_append [] ys list n = rw (add-zero n)
   put_append (x ∷ xs) ys list n =
       let k : n + suc (length xs) ≡ n + 1 + length xs = omega arith in
@@ -111,20 +111,11 @@ pub below_few : (es : List Element) (r : Route) (k : ℕ) → length (branches_b
 below_few es r zero = rw (below_none es r) (omega arith)
 below_few es r (suc k) = rw (← (add-one k)) (omega (arith, below_grow es r k, branches_few k (marks_of es r k) 96, below_few es r k))
 
--- both lists are filled where both have room
-module _ (es : List Element) (r : Route) (requests after : List Request) (branches after' : List Branch) where
-  pub told : (t : List Mark) (n m : ℕ) → t ≡ route_marks es r → n ≡ length (requests_in t 96) → m ≡ length (branches_of es r)
-      → n ≤ length requests → m ≤ length branches
-      → after ≡ put_at (requests_in t 96) 0 requests → after' ≡ put_at (branches_of es r) 0 branches
-      → (Some (n, m) ≡ counts_told es r requests branches) × (after ≡ requests_told es r requests branches) × (after' ≡ branches_told es r requests branches)
-  told t n m i j k l p a b =
-      let are : requests_in t 96 ≡ requests_of es r = ap (λ (x : List Mark). requests_in x 96) i in
-      let count : n ≡ length (requests_of es r) = j ∙ ap length are in
-      let room : length (requests_of es r) ≤ length requests = omega arith in
-      let room' : length (branches_of es r) ≤ length branches = omega arith in
-      let fit : fits es r requests branches ≡ true = and_from _ _ (le-leb _ _ room) (le-leb _ _ room') in
-      rw fit (
-        ap (λ x. Some (x, m)) count ∙ ap (λ x. Some (length (requests_of es r), x)) k,
-        a ∙ (ap (λ (x : List Request). put_at x 0 requests) are ∙ put_filled (requests_of es r) requests room),
-        b ∙ put_filled (branches_of es r) branches room',
-      )
+-- a list is filled where both lists have room
+pub listed : {A B : Type 0} (es : List Element) (r : Route) (list : List A) (branches : List Branch)
+    → length (requests_of es r) ≤ length list → length (branches_of es r) ≤ length branches
+    → (answers before after : List B) → length answers ≤ length before → after ≡ put_at answers 0 before
+    → after ≡ list_filled (have_room es r list branches) answers before
+listed es r list branches h k answers before after l e =
+    let room : have_room es r list branches ≡ true = and_from _ _ (le-leb _ _ h) (le-leb _ _ k) in
+    rw room (e ∙ put_filled answers before l)

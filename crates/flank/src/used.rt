@@ -1,12 +1,12 @@
 //! The elements that a route uses.
 
-ghost use Rattle.std.specs.Prelude.{◌≡◌, false, slice_index_or};
+ghost use Rattle.std.specs.Prelude.{◌≡◌};
 ghost use Rattle.flank.specs.Used.{inner, with_one, with_used, used_table};
 
 use layout::element::Element;
 use layout::ports::element_at;
 use layout::route::Route;
-use tables::table::{at_or, put};
+use tables::table::put;
 
 /// The elements strictly between the first and the last of a path.
 pub fn inner(path: &[u8]) -> &[u8]
@@ -47,11 +47,4 @@ pub fn used_by(elements: &[Element], route: &Route) -> [bool; 96]
     use_way(elements, inner(route.path_elements()), &mut used);
     use_way(elements, route.overlap_elements(), &mut used);
     used
-}
-
-/// Whether a table of used elements has an element.
-pub(crate) fn is_used(used: &[bool], number: u8) -> bool
-    ensures { result ≡ slice_index_or used.now number false }
-{
-    at_or(used, number as usize, false)
 }
