@@ -35,9 +35,6 @@ module _ {A : Type 0} (made : Request → A → Type 0) where
   pub made_none : (f : Filling A) → AddsMade made f [] f
   made_none f = record { answers = []; each = tt; adds = adds_none f }
 
-  pub made_one : (f g : Filling A) (q : Request) (x : A) → made q x → Adds f (x ∷ []) g → AddsMade made f (q ∷ []) g
-  made_one f g q x m a = record { answers = x ∷ []; each = (m, tt); adds = a }
-
   pub made_length : (f g : Filling A) (ps : List Request) → AddsMade made f ps g → g.count ≡ f.count + length ps
   made_length f g ps a = omega (arith, a.adds.count, AllZip-long made ps a.answers a.each)
 

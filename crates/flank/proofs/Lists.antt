@@ -39,14 +39,6 @@ module _ {A : Type 0} where
   pub put_filled : (xs list : List A) → length xs ≤ length list → put_at xs 0 list ≡ filled xs list
   put_filled xs list h = put_after xs [] list (omega arith)
 
-  -- a turn: some answers more, written from the next place on
-  pub put_more : (xs new all list list' base : List A) (n at next : ℕ) → all ≡ xs ++ new → at ≡ n + length xs → list ≡ put_at xs n base
-      → next ≡ at + length new → list' ≡ put_at new at list → (next ≡ n + length all) × (list' ≡ put_at all n base)
-  put_more xs new all list list' base n at next i j k l m = (
-    omega (arith, ap length i ∙ length-append xs new),
-    m ∙ (ap (λ p. put_at new p list) j ∙ (ap (put_at new (n + length xs)) k ∙ (sym (put_append xs new base n) ∙ ap (λ (t : List A). put_at t n base) (sym i)))),
-  )
-
 pub requests_none : (t : List Mark) → requests_in t 0 ≡ []
 unfolding requests_in
 requests_none t = refl

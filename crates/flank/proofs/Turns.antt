@@ -3,11 +3,10 @@ use Rattle.std.proofs.Common.{◌≡◌, ℕ, zero, suc, ◌+◌, ◌-◌, ◌<�
 use Rattle.layout.specs.declared.element.Element.{Element}
 use Rattle.layout.specs.declared.element.Join.{Join}
 use Rattle.layout.specs.declared.route.Route.{Route}
-use Rattle.flank.specs.declared.answers.Mark.{Mark}
 use Rattle.flank.specs.Signals.{passes, onward, along}
 use Rattle.flank.specs.Used.{used_table}
 use Rattle.flank.specs.Flanks.{flank_in, flank_of}
-use Rattle.flank.specs.Protection.{flank_marks, no_marks, marks_below, marks_of}
+use Rattle.flank.specs.Protection.{flank_marks, no_marks, marks_below}
 
 -- passing signals, of which n more may be passed
 pub along_suc : (b : Bool) (es : List Element) (n : ℕ) (q : Join) → passes b es q ≡ true → along b es (suc n) q ≡ along b es n (onward es q)
@@ -21,10 +20,6 @@ pub along_rests : (b : Bool) (es : List Element) (n : ℕ) (q : Join) → passes
 unfolding along
 along_rests b es zero q h = refl
 along_rests b es (suc n) q h = rw (h, along)
-
-pub along_none : (b : Bool) (es : List Element) (n : ℕ) (q : Join) → n ≡ 0 → along b es n q ≡ q
-unfolding along
-along_none b es n q e = rw e refl
 
 -- no point lies inside a way of fewer than two elements
 pub flank_nowhere : (es : List Element) (before : ℕ) (way : List ℕ) (e : ℕ) → length way < 2 → flank_in es before way e ≡ None
@@ -46,8 +41,3 @@ pub marks_more : (es : List Element) (r : Route) (k : ℕ)
     → marks_below es r (k + 1) ≡ flank_marks es (used_table es r) k (flank_of es r k) (marks_below es r k)
 unfolding marks_below
 marks_more es r k = rw add-one
-
-pub flank_table : (es : List Element) (r : Route) (k : ℕ) (used : List Bool) (before after : List Mark) → used ≡ used_table es r → before ≡ no_marks
-    → after ≡ flank_marks es used k (flank_of es r k) before → after ≡ marks_of es r k
-flank_table es r k used before after i j h =
-    h ∙ (ap (λ (u : List Bool). flank_marks es u k (flank_of es r k) before) i ∙ ap (flank_marks es (used_table es r) k (flank_of es r k)) j)
