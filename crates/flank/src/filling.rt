@@ -24,7 +24,7 @@ impl<'a, T: Copy> Filling<'a, T> {
 
     /// Writes the next answer, if the list has room for it.
     pub(crate) fn add(&mut self, answer: T)
-        requires { self.old.count < 100000 }
+        requires { self.old.count < usize.MAX }
         ensures { Adds self.old (answer ∷ []) self.new }
     {
         put(self.list, self.count, answer);

@@ -9,7 +9,7 @@ use layout::position::Position;
 use layout::route::{Route, RouteClass};
 
 /// The leg of a used point that the route does not use, and how many points that count a walk out of it may pass.
-#[derive(Clone, Copy)]
+#[derive(Clone, Copy, PartialEq, Eq)]
 pub struct Flank {
     pub leg: Position,
     pub spare: u8,

@@ -17,7 +17,7 @@ fn add_asked<T: Copy, F: Fn(Request) -> T>(
     filling: &mut Filling<T>,
 )
     requires callable { F.IsAlwaysCallable made.now }
-    requires few { filling.old.count < 10000 }
+    requires few { filling.old.count < usize.MAX }
     ensures { AddsMade (F.post made.now) filling.old (cond is_asked (request ∷ []) []) filling.new }
 {
     if is_asked {
@@ -34,7 +34,7 @@ fn add_requests<T: Copy, F: Fn(Request) -> T>(
     filling: &mut Filling<T>,
 )
     requires callable { F.IsAlwaysCallable made.now }
-    requires few { filling.old.count < 1000 }
+    requires few { filling.old.count < 100000 }
     ensures { AddsMade (F.post made.now) filling.old (requests_at element mark) filling.new }
 {
     let position = Position::Plus;
@@ -63,7 +63,7 @@ pub(crate) fn list_requests<T: Copy, F: Fn(Request) -> T>(
 impl Filling<'_, Branch> {
     /// Adds the open branches of a table of the flank of `from`.
     pub(crate) fn add_open(&mut self, from: u8, marked: &[Mark; 96])
-        requires { self.old.count < 10000 }
+        requires { self.old.count < 100000 }
         ensures { Adds self.old (branches_in from marked.now 96) self.new }
     {
         for (last, mark) in (0..96u8).zip(marked) {

@@ -33,7 +33,7 @@ impl Mark {
 }
 
 /// Changes the mark of an element, if the table has it.
-pub(crate) fn change_mark<F: Fn(Mark) -> Mark>(marked: &mut [Mark], number: u8, change: F)
+pub(crate) fn change_mark<F: FnOnce(Mark) -> Mark>(marked: &mut [Mark], number: u8, change: F)
     requires { F.IsAlwaysCallable change }
     ensures { (mark : _) × F.post change (slice_index_or marked.old number unmarked) mark × (marked.new ≡ slice_set marked.old number mark) }
 {

@@ -11,7 +11,7 @@ use layout::ports::element_at;
 use layout::position::Position;
 
 /// A walk at an element that it does not just pass.
-#[derive(Clone, Copy)]
+#[derive(Clone, Copy, PartialEq, Eq)]
 pub enum Meeting {
     /// The walk ends, and not open.
     Ends,

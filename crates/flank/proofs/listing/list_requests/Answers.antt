@@ -1,6 +1,5 @@
-use Rattle.std.proofs.Common.{◌≡◌, ℕ, length, ap, ◌∙◌, arith}
+use Rattle.std.proofs.Common.{length, ap, ◌∙◌, arith}
 use Rattle.std.specs.Iterator.Adapters.{zip_first}
-use Rattle.std.specs.declared.ops.Range.{Range}
 use Rattle.flank.specs.Search.{unmarked}
 use Rattle.flank.specs.Protection.{requests_in}
 use Rattle.flank.proofs.Rows.{begins, turn, turned}
@@ -10,9 +9,8 @@ use Rattle.flank.proofs.listing.list_requests.Goals as goal
 
 pub loop-element-init : goal.loop-element-init
 loop-element-init g c =
-    let whole : zip_first c.zip-element-items.result ≡ record { start = 0; end = length c.args.marked.now } = rw c.told-marked c.zip-element-items.ensures.first in
-    let none : (zip_first c.zip-element-items.result).start ≡ 0 = ap (λ (r : Range ℕ). r.start) whole in
-    rw c.into_iter-element-iterator.ensures.into_iter_gives ((tt, tt), tt, begins _ _ whole c.zip-element-items.ensures.second.0, rw (none, requests_none) (made_none _ _))
+    let at = begins _ _ c.told-marked c.zip-element-items.ensures.first c.zip-element-items.ensures.second.0 in
+    rw c.into_iter-element-iterator.ensures.into_iter_gives ((tt, tt), tt, at.0, rw (at.1, requests_none) (made_none _ _))
 
 pub add_requests-requires-clause-few : goal.add_requests-requires-clause-few
 add_requests-requires-clause-few g c =

@@ -1,6 +1,5 @@
-use Rattle.std.proofs.Common.{◌≡◌, ℕ, true, false, length, get_or, ap, sym, ◌∙◌, arith}
+use Rattle.std.proofs.Common.{◌≡◌, true, false, get_or, ap, sym, ◌∙◌, arith}
 use Rattle.std.specs.Iterator.Adapters.{zip_first}
-use Rattle.std.specs.declared.ops.Range.{Range}
 use Rattle.flank.specs.declared.answers.Mark.{Mark}
 use Rattle.flank.specs.Search.{unmarked}
 use Rattle.flank.proofs.Rows.{begins, turn}
@@ -10,9 +9,8 @@ use Rattle.flank.proofs.listing.Filling+Branch.add_open.Goals as goal
 
 pub loop-last-init : goal.loop-last-init
 loop-last-init c =
-    let whole : zip_first c.zip-last-items.result ≡ record { start = 0; end = length c.args.marked.now } = rw c.told-marked c.zip-last-items.ensures.first in
-    let none : (zip_first c.zip-last-items.result).start ≡ 0 = ap (λ (r : Range ℕ). r.start) whole in
-    rw c.into_iter-last-iterator.ensures.into_iter_gives ((tt, tt), tt, begins _ _ whole c.zip-last-items.ensures.second.0, rw (none, branches_none) (adds_none _))
+    let at = begins _ _ c.told-marked c.zip-last-items.ensures.first c.zip-last-items.ensures.second.0 in
+    rw c.into_iter-last-iterator.ensures.into_iter_gives ((tt, tt), tt, at.0, rw (at.1, branches_none) (adds_none _))
 
 pub add-requires : goal.add-requires
 add-requires c =
