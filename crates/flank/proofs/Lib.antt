@@ -1,3 +1,5 @@
 pub mod Turns
 pub mod Marking
 pub mod Lists
+pub mod Filled
+pub mod Rows

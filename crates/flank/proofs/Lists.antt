@@ -1,5 +1,6 @@
 -- Answers written into the first places of a list, one table place after another.
-use Rattle.std.proofs.Common.{◌≡◌, ℕ, zero, suc, ◌+◌, ◌*◌, ◌<◌, ◌≤◌, Bool, true, false, cond, List, [], ◌∷◌, ◌++◌, length, get_or, drop, set, Some, sym, refl, ap, ◌∙◌, append_assoc, append-nil, add-zero, add-one, arith, length-append, drop-cons}
+use Rattle.std.proofs.Common.{◌≡◌, ℕ, zero, suc, ◌+◌, ◌*◌, ◌<◌, ◌≤◌, Bool, true, false, cond, List, [], ◌∷◌, ◌++◌, length, get_or, set, sym, refl, ap, ◌∙◌, append_assoc, append-nil, add-zero, add-one, arith, length-append, drop-cons}
+use Rattle.std.proofs.Math.Seq.{set-append_seam}
 use Rattle.std.proofs.lemmas.Bool.{and_from, le-leb}
 use Rattle.layout.specs.declared.element.Element.{Element}
 use Rattle.layout.specs.declared.position.Position.TheVariants as position
@@ -8,23 +9,17 @@ use Rattle.flank.specs.declared.answers.Mark.{Mark}
 use Rattle.flank.specs.declared.answers.Request.{Request}
 use Rattle.flank.specs.declared.answers.Branch.{Branch}
 use Rattle.flank.specs.Search.{unmarked}
-use Rattle.flank.specs.Protection.{request, branch, requests_at, requests_in, branch_at, branches_in, marks_of, branches_below, route_marks, requests_of, branches_of, filled, put_at, fits, counts_told, requests_told, branches_told}
+use Rattle.flank.specs.Protection.{request, branch, requests_at, requests_in, branch_at, branches_in, marks_of, branches_below, requests_of, branches_of, filled, put_at, have_room, list_filled}
 
 module _ {A : Type 0} where
-  put_append : (xs ys list : List A) (n : ℕ) → put_at (xs ++ ys) n list ≡ put_at ys (n + length xs) (put_at xs n list)
+  pub put_append : (xs ys list : List A) (n : ℕ) → put_at (xs ++ ys) n list ≡ put_at ys (n + length xs) (put_at xs n list)
   put_append [] ys list n = rw (add-zero n)
   put_append (x ∷ xs) ys list n =
       let k : n + suc (length xs) ≡ n + 1 + length xs = omega arith in
       rw k (put_append xs ys (set list n x) (n + 1))
 
-  set_after : (pre : List A) (x r : A) (ys : List A) → set (pre ++ x ∷ ys) (length pre) r ≡ (pre ++ r ∷ []) ++ ys
-  set_after [] x r ys = refl
-  set_after (p ∷ ps) x r ys = ap (λ (t : List A). p ∷ t) (set_after ps x r ys)
-
   put_one : (pre list : List A) (r : A) → length pre < length list → set (filled pre list) (length pre) r ≡ filled (pre ++ r ∷ []) list
-  put_one pre list r h =
-      ap (λ (t : List A). set (pre ++ t) (length pre) r) (drop-cons list (length pre) r h)
-      ∙ (set_after pre _ r (drop (suc (length pre)) list) ∙ ap (λ n. (pre ++ r ∷ []) ++ drop n list) (sym (length-append pre (r ∷ []) ∙ add-one (length pre))))
+  put_one pre list r h = rw (drop-cons list (length pre) r h, set-append_seam) (simp (append_assoc, length-append, add-one))
 
   put_after : (xs pre list : List A) → length pre + length xs ≤ length list → put_at xs (length pre) (filled pre list) ≡ filled (pre ++ xs) list
   put_after [] pre list h = rw (append-nil pre)
@@ -39,14 +34,6 @@ module _ {A : Type 0} where
   pub put_filled : (xs list : List A) → length xs ≤ length list → put_at xs 0 list ≡ filled xs list
   put_filled xs list h = put_after xs [] list (omega arith)
 
-  -- a turn: some answers more, written from the next place on
-  pub put_more : (xs new all list list' base : List A) (n at next : ℕ) → all ≡ xs ++ new → at ≡ n + length xs → list ≡ put_at xs n base
-      → next ≡ at + length new → list' ≡ put_at new at list → (next ≡ n + length all) × (list' ≡ put_at all n base)
-  put_more xs new all list list' base n at next i j k l m = (
-    omega (arith, ap length i ∙ length-append xs new),
-    m ∙ (ap (λ p. put_at new p list) j ∙ (ap (put_at new (n + length xs)) k ∙ (sym (put_append xs new base n) ∙ ap (λ (t : List A). put_at t n base) (sym i)))),
-  )
-
 pub requests_none : (t : List Mark) → requests_in t 0 ≡ []
 unfolding requests_in
 requests_none t = refl
@@ -55,21 +42,12 @@ pub requests_more : (t : List Mark) (k : ℕ) → requests_in t (k + 1) ≡ requ
 unfolding requests_in
 requests_more t k = rw add-one
 
-pub requests_grow : (t : List Mark) (k : ℕ) → length (requests_in t (k + 1)) ≡ length (requests_in t k) + length (requests_at k (get_or t k unmarked))
-requests_grow t k = ap length (requests_more t k) ∙ length-append (requests_in t k) _
-
-at_most_two : (e : ℕ) (m : Mark) → length (requests_at e m) ≤ 2
-at_most_two e m = both m.plus m.minus
-  where
-    both : (a b : Bool) → length {A = Request} (cond a (request e position.Plus ∷ []) [] ++ cond b (request e position.Minus ∷ []) []) ≤ 2
-    both true true = omega arith
-    both true false = omega arith
-    both false true = omega arith
-    both false false = omega arith
+at_most_two : (a b : Bool) (q r : Request) → length (cond a (q ∷ []) [] ++ cond b (r ∷ []) []) ≤ 2
+at_most_two a b q r = grind (arith, length-append {A = Request})
 
 pub requests_few : (t : List Mark) (k : ℕ) → length (requests_in t k) ≤ 2 * k
 requests_few t zero = rw (requests_none t) (omega arith)
-requests_few t (suc k) = rw (← (add-one k)) (omega (arith, requests_grow t k, at_most_two k (get_or t k unmarked), requests_few t k))
+requests_few t (suc k) = rw (← (add-one k), requests_more t k, length-append) (omega (arith, at_most_two (get_or t k unmarked).plus (get_or t k unmarked).minus (request k position.Plus) (request k position.Minus), requests_few t k))
 
 pub branches_none : (u : ℕ) (t : List Mark) → branches_in u t 0 ≡ []
 unfolding branches_in
@@ -85,16 +63,12 @@ branches_open u t k e = branches_more u t k ∙ rw e
 pub branches_shut : (u : ℕ) (t : List Mark) (k : ℕ) → (get_or t k unmarked).open_end ≡ false → branches_in u t (k + 1) ≡ branches_in u t k
 branches_shut u t k e = branches_more u t k ∙ rw e (append-nil (branches_in u t k))
 
-branches_grow : (u : ℕ) (t : List Mark) (k : ℕ) → length (branches_in u t (k + 1)) ≡ length (branches_in u t k) + length (branch_at u k (get_or t k unmarked))
-branches_grow u t k = ap length (branches_more u t k) ∙ length-append (branches_in u t k) _
-
-at_most_one : (u l : ℕ) (b : Bool) → length {A = Branch} (cond b (branch u l ∷ []) []) ≤ 1
-at_most_one u l true = omega arith
-at_most_one u l false = omega arith
+at_most_one : (b : Bool) (q : Branch) → length (cond b (q ∷ []) []) ≤ 1
+at_most_one b q = grind arith
 
 pub branches_few : (u : ℕ) (t : List Mark) (k : ℕ) → length (branches_in u t k) ≤ k
 branches_few u t zero = rw (branches_none u t) (omega arith)
-branches_few u t (suc k) = rw (← (add-one k)) (omega (arith, branches_grow u t k, at_most_one u k (get_or t k unmarked).open_end, branches_few u t k))
+branches_few u t (suc k) = rw (← (add-one k), branches_more u t k, length-append) (omega (arith, at_most_one (get_or t k unmarked).open_end (branch u k), branches_few u t k))
 
 pub below_none : (es : List Element) (r : Route) → branches_below es r 0 ≡ []
 unfolding branches_below
@@ -104,27 +78,15 @@ pub below_more : (es : List Element) (r : Route) (k : ℕ) → branches_below es
 unfolding branches_below
 below_more es r k = rw add-one
 
-pub below_grow : (es : List Element) (r : Route) (k : ℕ) → length (branches_below es r (k + 1)) ≡ length (branches_below es r k) + length (branches_in k (marks_of es r k) 96)
-below_grow es r k = ap length (below_more es r k) ∙ length-append (branches_below es r k) _
-
 pub below_few : (es : List Element) (r : Route) (k : ℕ) → length (branches_below es r k) ≤ 96 * k
 below_few es r zero = rw (below_none es r) (omega arith)
-below_few es r (suc k) = rw (← (add-one k)) (omega (arith, below_grow es r k, branches_few k (marks_of es r k) 96, below_few es r k))
+below_few es r (suc k) = rw (← (add-one k), below_more es r k, length-append) (omega (arith, branches_few k (marks_of es r k) 96, below_few es r k))
 
--- both lists are filled where both have room
-module _ (es : List Element) (r : Route) (requests after : List Request) (branches after' : List Branch) where
-  pub told : (t : List Mark) (n m : ℕ) → t ≡ route_marks es r → n ≡ length (requests_in t 96) → m ≡ length (branches_of es r)
-      → n ≤ length requests → m ≤ length branches
-      → after ≡ put_at (requests_in t 96) 0 requests → after' ≡ put_at (branches_of es r) 0 branches
-      → (Some (n, m) ≡ counts_told es r requests branches) × (after ≡ requests_told es r requests branches) × (after' ≡ branches_told es r requests branches)
-  told t n m i j k l p a b =
-      let are : requests_in t 96 ≡ requests_of es r = ap (λ (x : List Mark). requests_in x 96) i in
-      let count : n ≡ length (requests_of es r) = j ∙ ap length are in
-      let room : length (requests_of es r) ≤ length requests = omega arith in
-      let room' : length (branches_of es r) ≤ length branches = omega arith in
-      let fit : fits es r requests branches ≡ true = and_from _ _ (le-leb _ _ room) (le-leb _ _ room') in
-      rw fit (
-        ap (λ x. Some (x, m)) count ∙ ap (λ x. Some (length (requests_of es r), x)) k,
-        a ∙ (ap (λ (x : List Request). put_at x 0 requests) are ∙ put_filled (requests_of es r) requests room),
-        b ∙ put_filled (branches_of es r) branches room',
-      )
+-- a list is filled where both lists have room
+pub listed : {A B : Type 0} (es : List Element) (r : Route) (list : List A) (branches : List Branch)
+    → length (requests_of es r) ≤ length list → length (branches_of es r) ≤ length branches
+    → (answers before after : List B) → length answers ≤ length before → after ≡ put_at answers 0 before
+    → after ≡ list_filled (have_room es r list branches) answers before
+listed es r list branches h k answers before after l e =
+    let room : have_room es r list branches ≡ true = and_from _ _ (le-leb _ _ h) (le-leb _ _ k) in
+    rw room (e ∙ put_filled answers before l)

@@ -4,3 +4,4 @@ pub mod Meetings
 pub mod Search
 pub mod Flanks
 pub mod Protection
+pub mod Fillings

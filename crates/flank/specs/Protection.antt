@@ -79,22 +79,33 @@ branches_of es r = branches_below es r 96
 abbrev pub filled : {A : Type 0} → List A → List A → List A
 filled answers list = answers ++ drop (length answers) list
 
--- Whether both lists of the caller have room for the answers.
-abbrev pub fits : List Element → Route → List Request → List Branch → Bool
-fits es r requests branches =
-    nat_le (length (requests_of es r)) (length requests) && nat_le (length (branches_of es r)) (length branches)
+-- Whether two lists of the caller have room for an answer to each request and for the open branches.
+abbrev pub have_room : {A : Type 0} → List Element → Route → List A → List Branch → Bool
+have_room es r list branches =
+    nat_le (length (requests_of es r)) (length list) && nat_le (length (branches_of es r)) (length branches)
 
 -- The numbers of requests and of open branches; none where a list is too short.
+abbrev pub counts_listed : {A : Type 0} → List Element → Route → List A → List Branch → Option (ℕ × ℕ)
+counts_listed es r list branches =
+    cond (have_room es r list branches) (Some (length (requests_of es r), length (branches_of es r))) None
+
+-- A list of the caller afterwards: filled where there is room, else as it was.
+abbrev pub list_filled : {A : Type 0} → Bool → List A → List A → List A
+list_filled room answers list = cond room (filled answers list) list
+
+-- The same of a list of requests.
+abbrev pub fits : List Element → Route → List Request → List Branch → Bool
+fits es r requests branches = have_room es r requests branches
+
 abbrev pub counts_told : List Element → Route → List Request → List Branch → Option (ℕ × ℕ)
-counts_told es r requests branches =
-    cond (fits es r requests branches) (Some (length (requests_of es r), length (branches_of es r))) None
+counts_told es r requests branches = counts_listed es r requests branches
 
 -- The lists of the caller afterwards: filled, or as they were where one is too short.
 abbrev pub requests_told : List Element → Route → List Request → List Branch → List Request
-requests_told es r requests branches = cond (fits es r requests branches) (filled (requests_of es r) requests) requests
+requests_told es r requests branches = list_filled (fits es r requests branches) (requests_of es r) requests
 
 abbrev pub branches_told : List Element → Route → List Request → List Branch → List Branch
-branches_told es r requests branches = cond (fits es r requests branches) (filled (branches_of es r) branches) branches
+branches_told es r requests branches = list_filled (fits es r requests branches) (branches_of es r) branches
 
 -- A list with some answers written into it from the place n on, as far as it has room.
 abbrev pub put_at : {A : Type 0} → List A → ℕ → List A → List A

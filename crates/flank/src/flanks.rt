@@ -9,7 +9,7 @@ use layout::position::Position;
 use layout::route::{Route, RouteClass};
 
 /// The leg of a used point that the route does not use, and how many points that count a walk out of it may pass.
-#[derive(Clone, Copy)]
+#[derive(Clone, Copy, PartialEq, Eq)]
 pub struct Flank {
     pub leg: Position,
     pub spare: u8,
@@ -19,10 +19,7 @@ pub struct Flank {
 fn leads_to(join: Option<Join>, number: u8) -> bool
     ensures { result ≡ leads_to join number }
 {
-    match join {
-        Some(far) => far.element == number,
-        None => false,
-    }
+    join.is_some_and(|far| far.element == number)
 }
 
 /// The leg of a point that a way from one neighbour to another does not use.
@@ -38,15 +35,16 @@ fn free_leg(elements: &[Element], before: u8, point: u8, after: u8) -> Position
 }
 
 /// The free leg of a point inside a way, which comes from the element `first`.
+#[tactic(auto, using(crate::proofs::Turns::flank_nowhere), unfolding(crate::specs::Flanks::flank_in))]
 fn flank_in(elements: &[Element], first: u8, way: &[u8], point: u8) -> Option<Position>
     ensures { result ≡ flank_in elements.now first way.now point }
 {
     let mut before = first;
-    for i in 0..way.len().saturating_sub(1) {
-        if way[i] == point {
-            return Some(free_leg(elements, before, point, way[i + 1]));
+    for [element, after] in way.array_windows::<2>() {
+        if *element == point {
+            return Some(free_leg(elements, before, point, *after));
         }
-        before = way[i];
+        before = *element;
     }
     None
 }
@@ -65,10 +63,7 @@ fn path_spare(class: RouteClass) -> u8
 fn with_spare(leg: Option<Position>, spare: u8) -> Option<Flank>
     ensures { result ≡ with_spare leg spare }
 {
-    match leg {
-        Some(leg) => Some(Flank { leg, spare }),
-        None => None,
-    }
+    leg.map(|leg| Flank { leg, spare })
 }
 
 /// A flank inside the path of a route of a class.
@@ -86,19 +81,17 @@ fn overlap_flank(leg: Option<Position>) -> Option<Flank>
 }
 
 /// The flank of an element, where it is a point that the route uses.
+#[tactic(auto, unfolding(crate::specs::Flanks::flank_over))]
 pub fn flank_of(elements: &[Element], route: &Route, number: u8) -> Option<Flank>
     ensures { result ≡ flank_of elements.now route.now number }
 {
     let path = route.path_elements();
-    if path.len() == 0 || !element_at(elements, number as usize).kind.is_point() {
+    let (first, way) = path.split_first()?;
+    let last = path.last()?;
+    if !element_at(elements, number as usize).kind.is_point() {
         return None;
     }
-    let in_path = flank_in(elements, path[0], &path[1..], number);
-    let in_overlap = flank_in(
-        elements,
-        path[path.len() - 1],
-        route.overlap_elements(),
-        number,
-    );
+    let in_path = flank_in(elements, *first, way, number);
+    let in_overlap = flank_in(elements, *last, route.overlap_elements(), number);
     path_flank(in_path, route.class).or(overlap_flank(in_overlap))
 }

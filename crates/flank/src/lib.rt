@@ -2,8 +2,10 @@
 #![tactic(auto)]
 
 pub mod answers;
+mod filling;
 pub mod flanks;
 mod listing;
+mod marks;
 pub mod meeting;
 pub mod protection;
 mod search;

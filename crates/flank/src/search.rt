@@ -1,71 +1,70 @@
-//! The search for what shields a flank.
+//! The search for what shields the flanks of a route.
 
-ghost use Rattle.std.specs.Prelude.{◌≡◌};
-ghost use Rattle.flank.specs.Search.{asked, marked_at, opened_at, marks, walk};
+ghost use Rattle.std.specs.Prelude.{◌≡◌, false, slice_index_or};
+ghost use Rattle.flank.specs.Used.{used_table};
+ghost use Rattle.flank.specs.Search.{marks, walk};
 
 use crate::answers::Mark;
-use crate::meeting::{Meeting, meet};
+use crate::marks::change_mark;
+use crate::meeting::Meeting;
 use crate::signals::{beyond_leg, far_end, pass_signals};
+use crate::used::used_by;
 use layout::element::{Element, Join};
 use layout::position::Position;
+use layout::route::Route;
+use tables::table::at_or;
 
-impl Mark {
-    /// Marks the element as requested in a position.
-    fn ask(&mut self, position: Position)
-        ensures { self.new ≡ asked position self.old }
+/// A drawing and a route over it, with the table of the elements that the route uses.
+#[derive(Clone, Copy)]
+pub(crate) struct Search<'a> {
+    pub(crate) elements: &'a [Element],
+    pub(crate) route: &'a Route,
+    used: [bool; 96],
+    ghost uses: { used ≡ used_table elements.now route.now },
+}
+
+impl<'a> Search<'a> {
+    pub(crate) fn of(elements: &'a [Element], route: &'a Route) -> Search<'a>
+        ensures elements { result.elements.now ≡ elements.now }
+        ensures route { result.route.now ≡ route.now }
     {
-        match position {
-            Position::Plus => self.plus = true,
-            Position::Minus => self.minus = true,
+        Search {
+            elements,
+            route,
+            used: used_by(elements, route),
         }
     }
-}
 
-/// Marks an element as requested in a position.
-fn mark_request(marked: &mut [Mark], number: u8, position: Position)
-    ensures { marked.new ≡ marked_at number position marked.old }
-{
-    let place = number as usize;
-    if place < marked.len() {
-        marked[place].ask(position);
+    /// Whether the route uses an element.
+    pub(crate) fn is_used(&self, number: u8) -> bool
+        ensures { result ≡ slice_index_or self.now.used number false }
+    {
+        at_or(&self.used, number as usize, false)
     }
-}
 
-/// Marks an element as one at which a walk ends open.
-fn mark_open(marked: &mut [Mark], number: u8)
-    ensures { marked.new ≡ opened_at number marked.old }
-{
-    let place = number as usize;
-    if place < marked.len() {
-        marked[place].open_end = true;
-    }
-}
-
-/// Marks what the walks request that come to a port and may still pass `spare` points that count, and where they end open.
-pub(crate) fn search(
-    elements: &[Element],
-    used: &[bool],
-    from: Join,
-    spare: u8,
-    marked: &mut [Mark],
-)
-    ensures { marked.new ≡ marks (walk spare elements.now used.now from) marked.old }
-{
-    let met = pass_signals(elements, from, false);
-    let element = met.element;
-    match meet(elements, used, met) {
-        Meeting::Ends => {}
-        Meeting::Shields(position) => mark_request(marked, element, position),
-        Meeting::AtToe if spare > 0 => {
-            let plus = beyond_leg(elements, element, Position::Plus);
-            search(elements, used, plus, spare - 1, marked);
-            let minus = beyond_leg(elements, element, Position::Minus);
-            search(elements, used, minus, spare - 1, marked);
+    /// Marks what the walks request that come to a port and may still pass `spare` points that count, and where they end open.
+    #[tactic(auto, using(crate::proofs::Marking::marks_append), unfolding(crate::specs::Search::found, crate::specs::Search::marks))]
+    pub(crate) fn walk(&self, from: Join, spare: u8, marked: &mut [Mark])
+        ensures { marked.new ≡ marks (walk spare self.now.elements.now self.now.used from) marked.old }
+    {
+        let met = pass_signals(self.elements, from, false);
+        let element = met.element;
+        match self.meet(met) {
+            Meeting::Ends => {}
+            Meeting::Shields(position) => {
+                change_mark(marked, element, |mark| mark.asked(position));
+            }
+            Meeting::AtToe if spare > 0 => {
+                let plus = beyond_leg(self.elements, element, Position::Plus);
+                self.walk(plus, spare - 1, marked);
+                let minus = beyond_leg(self.elements, element, Position::Minus);
+                self.walk(minus, spare - 1, marked);
+            }
+            Meeting::AtLeg if spare > 0 => {
+                let toe = far_end(self.elements, Join { element, port: 0 });
+                self.walk(toe, spare - 1, marked);
+            }
+            Meeting::AtToe | Meeting::AtLeg => change_mark(marked, element, Mark::opened),
         }
-        Meeting::AtLeg if spare > 0 => {
-            let toe = far_end(elements, Join { element, port: 0 });
-            search(elements, used, toe, spare - 1, marked);
-        }
-        Meeting::AtToe | Meeting::AtLeg => mark_open(marked, element),
     }
 }

@@ -3,10 +3,9 @@
 ghost use Rattle.std.specs.Prelude.{◌≡◌};
 ghost use Rattle.layout.specs.Uses.{leg};
 ghost use Rattle.layout.specs.Ways.{port};
-ghost use Rattle.flank.specs.Signals.{far_end, is_requested, is_able_signal, passes, along};
+ghost use Rattle.flank.specs.Signals.{far_end, is_able_signal, passes, along};
 
 use layout::element::{Element, Join};
-use layout::kind::{Kind, Marks};
 use layout::ports::element_at;
 use layout::position::Position;
 
@@ -17,10 +16,9 @@ const SIGNAL_PORTS: usize = 192;
 pub(crate) fn far_end(elements: &[Element], from: Join) -> Join
     ensures { result ≡ far_end elements.now from }
 {
-    match element_at(elements, from.element as usize).join(from.port) {
-        Some(far) => far,
-        None => from,
-    }
+    element_at(elements, from.element as usize)
+        .join(from.port)
+        .unwrap_or(from)
 }
 
 /// The port of a point's leg.
@@ -41,21 +39,11 @@ pub(crate) fn beyond_leg(elements: &[Element], element: u8, position: Position) 
     far_end(elements, Join { element, port })
 }
 
-/// Whether a signal with these marks is requested at flanks.
-fn is_requested(marks: Option<Marks>) -> bool
-    ensures { result ≡ is_requested marks }
-{
-    match marks {
-        Some(marks) => marks.requested,
-        None => false,
-    }
-}
-
 /// Whether a signal met at a port is able to shield: it is marked, and met at its front.
 pub(crate) fn is_able_signal(signal: Element, port: u8) -> bool
     ensures { result ≡ is_able_signal signal port }
 {
-    is_requested(signal.marks) && port == 1
+    signal.marks.is_some_and(|marks| marks.requested) && port == 1
 }
 
 /// Whether a walk passes what it meets at a port: a signal, and an able one only where `able_too`.
@@ -63,13 +51,11 @@ fn is_passed(elements: &[Element], met: Join, able_too: bool) -> bool
     ensures { result ≡ passes able_too elements.now met }
 {
     let element = element_at(elements, met.element as usize);
-    match element.kind {
-        Kind::Signal => able_too || !is_able_signal(element, met.port),
-        Kind::Track | Kind::Point | Kind::Derailer | Kind::PlanEnd => false,
-    }
+    element.kind.is_signal() && (able_too || !is_able_signal(element, met.port))
 }
 
 /// The first port that is met, from a port on, and not passed. A signal is passed to its other port.
+#[tactic(auto, using(crate::proofs::Turns::along_rests, crate::proofs::Turns::along_more), unfolding(crate::specs::Signals::along))]
 pub(crate) fn pass_signals(elements: &[Element], from: Join, able_too: bool) -> Join
     ensures { result ≡ along able_too elements.now 192 from }
 {

@@ -1,6 +1,6 @@
 //! The elements that a route uses.
 
-ghost use Rattle.std.specs.Prelude.{◌≡◌, false, slice_index_or};
+ghost use Rattle.std.specs.Prelude.{◌≡◌};
 ghost use Rattle.flank.specs.Used.{inner, with_one, with_used, used_table};
 
 use layout::element::Element;
@@ -9,13 +9,12 @@ use layout::route::Route;
 use tables::table::put;
 
 /// The elements strictly between the first and the last of a path.
-fn inner(path: &[u8]) -> &[u8]
+pub fn inner(path: &[u8]) -> &[u8]
     ensures { result.now ≡ inner path.now }
 {
-    if path.len() > 1 {
-        &path[1..path.len() - 1]
-    } else {
-        &[]
+    match path {
+        [_, inner @ .., _] => inner,
+        _ => &[],
     }
 }
 
@@ -30,15 +29,17 @@ fn use_one(elements: &[Element], number: u8, used: &mut [bool])
 }
 
 /// Adds the tracks, points and derailers of a way to the table of used elements.
+#[tactic(auto, unfolding(crate::specs::Used::with_used))]
 fn use_way(elements: &[Element], way: &[u8], used: &mut [bool])
     ensures { used.new ≡ with_used elements.now way.now used.old }
 {
-    for i in 0..way.len() {
-        use_one(elements, way[i], used);
+    for number in way {
+        use_one(elements, *number, used);
     }
 }
 
 /// The table of the elements that a route uses, by number.
+#[tactic(auto, unfolding(crate::specs::Used::used_table))]
 pub fn used_by(elements: &[Element], route: &Route) -> [bool; 96]
     ensures { result ≡ used_table elements.now route.now }
 {
@@ -46,12 +47,4 @@ pub fn used_by(elements: &[Element], route: &Route) -> [bool; 96]
     use_way(elements, inner(route.path_elements()), &mut used);
     use_way(elements, route.overlap_elements(), &mut used);
     used
-}
-
-/// Whether a table of used elements has an element.
-pub(crate) fn is_used(used: &[bool], number: u8) -> bool
-    ensures { result ≡ slice_index_or used.now number false }
-{
-    let place = number as usize;
-    place < used.len() && used[place]
 }

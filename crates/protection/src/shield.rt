@@ -1,11 +1,30 @@
 //! A request of a route, as a station sees it.
 
+ghost use Rattle.std.specs.Prelude.{◌≡◌};
+ghost use Rattle.protection.specs.Shields.{shield_of};
+
+use flank::answers::Request;
+use holds::interlocking::Interlocking;
 use layout::position::Position;
 
 /// An element that a route requests to shield a flank, the position in which it is requested, and whether the route holds it in that position.
-#[derive(Clone, Copy)]
+#[derive(Clone, Copy, PartialEq, Eq)]
 pub struct Shield {
     pub element: u8,
     pub position: Position,
     pub held: bool,
+}
+
+impl Shield {
+    /// A request of a route, with what the route holds of it.
+    pub(crate) fn of(interlocking: &Interlocking, route: usize, request: Request) -> Shield
+        ensures { result ≡ shield_of interlocking.now route request }
+    {
+        let Request { element, position } = request;
+        Shield {
+            element,
+            position,
+            held: interlocking.is_held_in(route, element, position),
+        }
+    }
 }

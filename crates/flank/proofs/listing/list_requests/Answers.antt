@@ -1,20 +1,33 @@
-use Rattle.std.proofs.Common.{◌≡◌, ◌+◌, length, arith, rules}
+use Rattle.std.proofs.Common.{length, ap, ◌∙◌, arith}
+use Rattle.std.specs.Iterator.Adapters.{zip_first}
+use Rattle.flank.specs.Search.{unmarked}
 use Rattle.flank.specs.Protection.{requests_in}
-use Rattle.flank.proofs.Lists.{requests_few, requests_more, put_more}
+use Rattle.flank.proofs.Rows.{begins, turn, turned}
+use Rattle.flank.proofs.Lists.{requests_none, requests_few}
+use Rattle.flank.proofs.Filled.{made_none, made_length, requests_made_more}
 use Rattle.flank.proofs.listing.list_requests.Goals as goal
 
-pub loop-number-init : goal.loop-number-init
-unfolding requests_in
-loop-number-init c = search rules
+pub loop-element-init : goal.loop-element-init
+loop-element-init g c =
+    let at = begins _ _ c.told-marked c.zip-element-items.ensures.first c.zip-element-items.ensures.second.0 in
+    rw c.into_iter-element-iterator.ensures.into_iter_gives ((tt, tt), tt, at.0, rw (at.1, requests_none) (made_none _ _))
 
-pub list_mark-place-requires : goal.list_mark-place-requires
-list_mark-place-requires c = search (rules, requests_few)
+pub add_requests-requires-clause-few : goal.add_requests-requires-clause-few
+add_requests-requires-clause-few g c =
+    omega (
+      arith,
+      made_length _ _ _ _ c.loop-element.invariant.3,
+      c.loop-element.invariant.2.within,
+      c.told-marked,
+      requests_few c.args.marked.now (zip_first c.loop-element.element-iterator).start,
+    )
 
-pub loop-number-preserved : goal.loop-number-preserved
-loop-number-preserved c =
-    let at : c.loop-number.place ≡ 0 + length (requests_in c.args.marked.now c.loop-number.number) = omega arith in
-    let turn =
-    put_more _ _ _ _ _ c.args.list.now 0 c.loop-number.place c.list_mark-place.result (requests_more c.args.marked.now c.loop-number.number)
-    at c.loop-number.invariant.1 c.list_mark-place.ensures.next c.list_mark-place.ensures.list
-    in
-    (omega (arith, turn.0), turn.1)
+pub loop-element-preserved : goal.loop-element-preserved
+loop-element-preserved g c =
+    let at = turn c.args.marked.now c.loop-element.element-iterator c.next.new.self unmarked (c.in-Some.element, c.in-Some.mark) c.in-Some.ensures.steps c.loop-element.invariant.2 in
+    ((tt, tt), tt, at.0, rw at.1 (requests_made_more _ _ _ _ _ _ (rw at.2 c.loop-element.invariant.3) (rw at.3 at c.add_requests.ensures)))
+
+pub returns-clause-count : goal.returns-clause-count
+returns-clause-count g c =
+    let all = turned c.args.marked.now c.loop-element.element-iterator c.next.new.self c.in-None.ensures.steps c.loop-element.invariant.2 ∙ c.told-marked in
+    omega (arith, made_length _ _ _ _ c.loop-element.invariant.3, ap (λ n. length (requests_in c.args.marked.now n)) all)

@@ -1,4 +1,0 @@
-use Rattle.flank.proofs.search.+search.Given as goal
-
-abbrev pub decreases-search : goal.decreases-search
-decreases-search l = l.spare
