@@ -6,6 +6,7 @@ ghost use Rattle.holds.specs.Refusing.{excuses, clashes, apart, admits, all_admi
 
 use crate::interlocking::Interlocking;
 use refusals::refusal::Refusal;
+use sheets::concern::Concern;
 use sheets::sheet::{RouteSheet, Sheets};
 
 /// Whether the second route begins at the last signal of the first, and the first does not have the section in its path.

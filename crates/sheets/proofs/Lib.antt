@@ -1,1 +1,3 @@
+mod AnyPlace
+mod Filling
 mod TableTurn

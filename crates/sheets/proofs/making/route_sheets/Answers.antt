@@ -3,8 +3,8 @@ use Rattle.sheets.specs.Sheets.{route_sheets}
 use Rattle.sheets.proofs.TableTurn.{sheets_more, sheets_all}
 use Rattle.sheets.proofs.making.route_sheets.Goals as goal
 
-pub loop-i-preserved : goal.loop-i-preserved
-loop-i-preserved c = search (rules, sheets_more)
+pub loop-route-preserved : goal.loop-route-preserved
+loop-route-preserved c = search (rules, sheets_more)
 
 pub returns : goal.returns
 unfolding route_sheets
