@@ -1,3 +1,3 @@
 mod AnyPlace
 mod Filling
-mod TableTurn
+mod NumbersTurn

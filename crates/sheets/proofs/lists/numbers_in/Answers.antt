@@ -1,11 +1,12 @@
 use Rattle.std.proofs.Common.{◌≡◌, arith, rules}
-use Rattle.sheets.specs.Lists.{pushed_if}
-use Rattle.sheets.proofs.TableTurn.{numbers_none, numbers_more}
+use Rattle.sheets.specs.Lists.{pushed_if, numbers_where}
+use Rattle.sheets.proofs.NumbersTurn.{numbers_more}
 use Rattle.sheets.proofs.lists.numbers_in.Goals as goal
 use Rattle.sheets.proofs.lists.numbers_in.Goals.{then-is_any, else-is_any}
 
 pub loop-number-init : goal.loop-number-init
-loop-number-init g c = search (rules, numbers_none)
+unfolding numbers_where
+loop-number-init g c = search rules
 
 pub loop-number-preserved : goal.loop-number-preserved
 loop-number-preserved g c =
