@@ -4,9 +4,9 @@ use Rattle.layout.specs.declared.position.Position.{Position}
 use Rattle.sheets.specs.declared.sheet.RouteSheet.{RouteSheet}
 use Rattle.sheets.specs.Reading.{need_of, request_of, wanted_by}
 use Rattle.holds.specs.declared.interlocking.Interlocking.{Interlocking}
-use Rattle.holds.specs.declared.state.Turn.TheVariants as turn
+use Rattle.holds.specs.declared.state.RouteState.TheVariants as state
 use Rattle.holds.specs.Holds.{granted, left_by, open_to}
-use Rattle.holds.specs.States.{turned}
+use Rattle.holds.specs.States.{waits_again}
 use Rattle.holds.specs.Interlockings.{hold_of, state_of, with_hold, with_state}
 
 -- The route r joins the hold of the element e, in a position.
@@ -45,12 +45,12 @@ taken_out i r (suc n) = take_out (taken_out i r n) r n
 
 -- A route is set: it waits, holds what it needs, and then has its requests granted where they may be.
 abbrev pub taken_up : RouteSheet → ℕ → Interlocking → Interlocking
-taken_up s r i = requests_granted s r (needs_granted s r (with_state i r (turned (state_of i r) turn.Set)))
+taken_up s r i = requests_granted s r (needs_granted s r (with_state i r state.Waiting))
 
 -- A route is cleared: if dropped it waits again, and its requests are tried again.
 abbrev pub tried_again : RouteSheet → ℕ → Interlocking → Interlocking
-tried_again s r i = requests_granted s r (with_state i r (turned (state_of i r) turn.Clear))
+tried_again s r i = requests_granted s r (with_state i r (waits_again (state_of i r)))
 
 -- A route is released: it is absent, and out of every hold.
 abbrev pub given_up : ℕ → Interlocking → Interlocking
-given_up r i = taken_out (with_state i r (turned (state_of i r) turn.Release)) r 96
+given_up r i = taken_out (with_state i r state.Absent) r 96

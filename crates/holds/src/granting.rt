@@ -4,7 +4,7 @@ ghost use Rattle.std.specs.Prelude.{◌≡◌};
 ghost use Rattle.holds.specs.Granting.{joined_by, grant_need, needs_granted, grant_request, requests_granted, take_out, taken_out, taken_up, tried_again, given_up};
 
 use crate::interlocking::Interlocking;
-use crate::state::Turn;
+use crate::state::RouteState;
 use layout::position::Position;
 use sheets::sheet::RouteSheet;
 
@@ -83,7 +83,7 @@ impl Interlocking {
     pub fn take_up(&mut self, sheet: &RouteSheet, route: usize)
         ensures { self.new ≡ taken_up sheet.now route self.old }
     {
-        self.change(route, self.state(route).after(Turn::Set));
+        self.change(route, RouteState::Waiting);
         self.grant_needs(sheet, route);
         self.grant_requests(sheet, route);
     }
@@ -92,7 +92,7 @@ impl Interlocking {
     pub fn try_again(&mut self, sheet: &RouteSheet, route: usize)
         ensures { self.new ≡ tried_again sheet.now route self.old }
     {
-        self.change(route, self.state(route).after(Turn::Clear));
+        self.change(route, self.state(route).waits_again());
         self.grant_requests(sheet, route);
     }
 
@@ -100,7 +100,7 @@ impl Interlocking {
     pub fn give_up(&mut self, route: usize)
         ensures { self.new ≡ given_up route self.old }
     {
-        self.change(route, self.state(route).after(Turn::Release));
+        self.change(route, RouteState::Absent);
         self.take_out_of_all(route);
     }
 }
