@@ -1,5 +1,6 @@
 -- How a route comes into holds, and out of them.
-use Rattle.std.specs.Prelude.{ℕ, zero, suc, cond, Some, None, fold, Option}
+use Rattle.std.specs.Prelude.{◌≡◌, ℕ, zero, suc, cond, Some, None, fold, Option}
+use denote.Ref.{Bor}
 use Rattle.layout.specs.declared.position.Position.{Position}
 use Rattle.sheets.specs.declared.sheet.RouteSheet.{RouteSheet}
 use Rattle.sheets.specs.Reading.{need_of, request_of, wanted_by}
@@ -17,6 +18,14 @@ joined_by i r e p = with_hold i e (granted (hold_of i e) r p)
 abbrev pub hold_needed : Interlocking → ℕ → ℕ → Option Position → Interlocking
 hold_needed i r e None = i
 hold_needed i r e (Some p) = joined_by i r e p
+
+-- What a closure answers is what a choice says.
+abbrev pub AnswersBy : (Bor Interlocking → ℕ → Option Position → Type 0) → (Interlocking → ℕ → Option Position) → Type 0
+AnswersBy answers choice = (i : Bor Interlocking) (e : ℕ) (p : Option Position) → answers i e p → p ≡ choice i.now e
+
+-- A route joins the holds of the elements that it wants, one after another, each in the position that a choice gives, if any.
+abbrev pub wanted_joined : (Interlocking → ℕ → Option Position) → RouteSheet → ℕ → Interlocking → Interlocking
+wanted_joined choice s r i = fold (λ (j : Interlocking) (e : ℕ). hold_needed j r e (choice j e)) i (wanted_by s)
 
 abbrev pub grant_need : RouteSheet → ℕ → Interlocking → ℕ → Interlocking
 grant_need s r i e = hold_needed i r e (need_of s e)

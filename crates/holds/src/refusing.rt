@@ -40,10 +40,11 @@ impl Interlocking {
     fn all_admit(&self, sheets: &Sheets, sheet: &RouteSheet) -> bool
         ensures { result ≡ all_admit sheets.now sheet.now self.now }
     {
-        sheets.routes.as_slice().iter().enumerate().all(|(number, other)| !self
-            .state(number)
-            .stands()
-            || are_apart(sheet, other))
+        let routes = sheets.routes.as_slice();
+        routes.iter().enumerate().all(|(route, other)| {
+            let stands = self.state(route).stands();
+            !stands || are_apart(sheet, other)
+        })
     }
 
     /// Whether an element may be held as the route needs it.

@@ -17,5 +17,5 @@ returns c =
     let s = c.args.sheet.now in
     let i = c.args.self.now in
     let admitted = λ (p : ℕ × RouteSheet). not (stands (state_of i p.0)) || apart s p.1 in
-    all_from_yields_List admitted _ _ _ c.all.ensures.ran (YieldsList-from_enumerate (YieldsList-from_slice c.as_slice.result.now cc) cc) (λ x b q k. search (rules, tests))
-    ∙ rw c.as_slice.ensures (all_places admitted (admits t s i) _ past_the_end (λ k h. refl))
+    all_from_yields_List admitted _ _ _ c.all.ensures.ran (YieldsList-from_enumerate (YieldsList-from_slice c.as_slice-routes.result.now cc) cc) (λ x b q k. search (rules, tests))
+    ∙ rw c.as_slice-routes.ensures (all_places admitted (admits t s i) _ past_the_end (λ k h. refl))
