@@ -1,23 +1,33 @@
 -- The start and a turn of loops over elements and routes.
-use Rattle.std.proofs.Common.{◌≡◌, ℕ, ◌+◌, cond, refl, add-one}
+use Rattle.std.proofs.Common.{◌≡◌, ℕ, zero, suc, ◌+◌, cond, List, [], ◌∷◌, get_or, set, refl, sym, ap, add-one}
 use Rattle.sheets.specs.declared.sheet.Sheets.{Sheets}
 use Rattle.sheets.specs.Reading.{route_sheet}
-use Rattle.holds.specs.declared.aspect.Aspect.TheVariants as aspect
 use Rattle.holds.specs.declared.interlocking.Interlocking.{Interlocking}
 use Rattle.holds.specs.Aspects.{clears, shown, aspect_upto}
-use Rattle.holds.specs.Granting.{take_out, taken_out}
+use Rattle.holds.specs.Granting.{taken_out}
+use Rattle.holds.specs.Holds.{free_hold, left_by}
+use Rattle.holds.specs.declared.hold.Hold.{Hold}
 
-pub taken_out_none : (i : Interlocking) (r : ℕ) → taken_out i r 0 ≡ i
-unfolding taken_out
-taken_out_none i r = refl
+-- a change of one item of a list, past its end too, does not depend on what is read past the end
+change_at : {X : Type 0} (change : X → X) (xs : List X) (n : ℕ) (d e : X) → set xs n (change (get_or xs n d)) ≡ set xs n (change (get_or xs n e))
+change_at change [] n d e = refl
+change_at change (x ∷ xs) zero d e = refl
+change_at change (x ∷ xs) (suc n) d e = ap (λ (l : List _). x ∷ l) (change_at change xs n d e)
 
-pub taken_out_more : (i : Interlocking) (r n : ℕ) → taken_out i r (n + 1) ≡ take_out (taken_out i r n) r n
-unfolding taken_out
-taken_out_more i r n = rw add-one
+module _ (i : Interlocking) (r : ℕ) where
+  taken_out_states : (n : ℕ) → (taken_out i r n).states ≡ i.states
+  unfolding taken_out
+  taken_out_states zero = refl
+  taken_out_states (suc n) = taken_out_states n
 
-pub aspect_upto_none : (t : Sheets) (i : Interlocking) (e : ℕ) → aspect_upto t i e 0 ≡ aspect.Stop
-unfolding aspect_upto
-aspect_upto_none t i e = refl
+  pub left_more : (n : ℕ) (holds : List Hold) (d : Hold) → holds ≡ (taken_out i r n).holds
+      → set holds n (left_by (get_or holds n d) r) ≡ (taken_out i r (n + 1)).holds
+  unfolding taken_out
+  left_more n holds d e = rw (add-one, ← e) (change_at (λ (h : Hold). left_by h r) holds n d free_hold)
+
+  pub left_all : (n : ℕ) (holds : List Hold) → holds ≡ (taken_out i r n).holds → n ≡ 96
+      → record { holds = holds; states = i.states } ≡ taken_out i r 96
+  left_all n holds e all = rw (← all, e) (ap (λ s. record { holds = (taken_out i r n).holds; states = s }) (sym (taken_out_states n)))
 
 pub aspect_upto_more : (t : Sheets) (i : Interlocking) (e n : ℕ)
     → aspect_upto t i e (n + 1) ≡ cond (clears t i e n) (shown (route_sheet t n).showing) (aspect_upto t i e n)

@@ -1,12 +1,13 @@
 -- How a route comes into holds, and out of them.
-use Rattle.std.specs.Prelude.{ℕ, zero, suc, cond, Some, None, fold, Option}
+use Rattle.std.specs.Prelude.{◌≡◌, ℕ, zero, suc, cond, Some, None, fold, Option}
+use denote.Ref.{Bor}
 use Rattle.layout.specs.declared.position.Position.{Position}
 use Rattle.sheets.specs.declared.sheet.RouteSheet.{RouteSheet}
 use Rattle.sheets.specs.Reading.{need_of, request_of, wanted_by}
 use Rattle.holds.specs.declared.interlocking.Interlocking.{Interlocking}
-use Rattle.holds.specs.declared.state.Turn.TheVariants as turn
+use Rattle.holds.specs.declared.state.RouteState.TheVariants as state
 use Rattle.holds.specs.Holds.{granted, left_by, open_to}
-use Rattle.holds.specs.States.{turned}
+use Rattle.holds.specs.States.{waits_again}
 use Rattle.holds.specs.Interlockings.{hold_of, state_of, with_hold, with_state}
 
 -- The route r joins the hold of the element e, in a position.
@@ -17,6 +18,14 @@ joined_by i r e p = with_hold i e (granted (hold_of i e) r p)
 abbrev pub hold_needed : Interlocking → ℕ → ℕ → Option Position → Interlocking
 hold_needed i r e None = i
 hold_needed i r e (Some p) = joined_by i r e p
+
+-- What a closure answers is what a choice says.
+abbrev pub AnswersBy : (Bor Interlocking → ℕ → Option Position → Type 0) → (Interlocking → ℕ → Option Position) → Type 0
+AnswersBy answers choice = (i : Bor Interlocking) (e : ℕ) (p : Option Position) → answers i e p → p ≡ choice i.now e
+
+-- A route joins the holds of the elements that it wants, one after another, each in the position that a choice gives, if any.
+abbrev pub wanted_joined : (Interlocking → ℕ → Option Position) → RouteSheet → ℕ → Interlocking → Interlocking
+wanted_joined choice s r i = fold (λ (j : Interlocking) (e : ℕ). hold_needed j r e (choice j e)) i (wanted_by s)
 
 abbrev pub grant_need : RouteSheet → ℕ → Interlocking → ℕ → Interlocking
 grant_need s r i e = hold_needed i r e (need_of s e)
@@ -45,12 +54,12 @@ taken_out i r (suc n) = take_out (taken_out i r n) r n
 
 -- A route is set: it waits, holds what it needs, and then has its requests granted where they may be.
 abbrev pub taken_up : RouteSheet → ℕ → Interlocking → Interlocking
-taken_up s r i = requests_granted s r (needs_granted s r (with_state i r (turned (state_of i r) turn.Set)))
+taken_up s r i = requests_granted s r (needs_granted s r (with_state i r state.Waiting))
 
 -- A route is cleared: if dropped it waits again, and its requests are tried again.
 abbrev pub tried_again : RouteSheet → ℕ → Interlocking → Interlocking
-tried_again s r i = requests_granted s r (with_state i r (turned (state_of i r) turn.Clear))
+tried_again s r i = requests_granted s r (with_state i r (waits_again (state_of i r)))
 
 -- A route is released: it is absent, and out of every hold.
 abbrev pub given_up : ℕ → Interlocking → Interlocking
-given_up r i = taken_out (with_state i r (turned (state_of i r) turn.Release)) r 96
+given_up r i = taken_out (with_state i r state.Absent) r 96

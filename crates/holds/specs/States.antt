@@ -1,9 +1,7 @@
 -- The states of a route and how they change.
-use Rattle.std.specs.Prelude.{ℕ, Bool, true, false}
+use Rattle.std.specs.Prelude.{ℕ, Bool, true, false, cond, ◌&&◌, ◌==◌}
 use Rattle.holds.specs.declared.state.RouteState.{RouteState}
 use Rattle.holds.specs.declared.state.RouteState.TheVariants as state
-use Rattle.holds.specs.declared.state.Turn.{Turn}
-use Rattle.holds.specs.declared.state.Turn.TheVariants as turn
 
 -- The number of each state.
 abbrev pub state_number : RouteState → ℕ
@@ -31,6 +29,10 @@ is_clear state.Waiting = false
 is_clear state.Clear = true
 is_clear state.Dropped = false
 
+-- A route that moves on from one state is in another afterwards; one in any other state stays there.
+abbrev pub moved : RouteState → RouteState → RouteState → Bool → RouteState
+moved x from to moves = cond (state_number x == state_number from && moves) to x
+
 -- A clear route that is not ready becomes dropped.
 abbrev pub falls : RouteState → Bool → RouteState
 falls state.Absent ready = state.Absent
@@ -53,9 +55,3 @@ waits_again state.Absent = state.Absent
 waits_again state.Waiting = state.Waiting
 waits_again state.Clear = state.Clear
 waits_again state.Dropped = state.Waiting
-
--- The state of a route after an act on it: a set makes it wait, a clear makes a dropped route wait again, a release makes it absent.
-abbrev pub turned : RouteState → Turn → RouteState
-turned x turn.Set = state.Waiting
-turned x turn.Clear = waits_again x
-turned x turn.Release = state.Absent

@@ -6,16 +6,16 @@ ghost use Rattle.holds.specs.Aspects.{aspect_number, permits, shown};
 use sheets::sheet::Showing;
 
 /// What a signal shows.
-#[derive(Clone, Copy)]
+#[derive(Clone, Copy, PartialEq, Eq)]
 pub enum Aspect {
     /// Stop.
-    Stop,
+    Stop = 0,
     /// Shunting is allowed.
-    Shunting,
+    Shunting = 1,
     /// Proceed slowly.
-    Slow,
+    Slow = 2,
     /// Proceed.
-    Proceed,
+    Proceed = 3,
 }
 
 impl Aspect {
@@ -23,28 +23,22 @@ impl Aspect {
     pub fn number(self) -> u8
         ensures { result ≡ aspect_number self }
     {
-        match self {
-            Aspect::Stop => 0,
-            Aspect::Shunting => 1,
-            Aspect::Slow => 2,
-            Aspect::Proceed => 3,
-        }
+        self as u8
     }
 
     /// Whether the aspect is permissive.
     pub(crate) fn permits(self) -> bool
         ensures { result ≡ permits self }
     {
-        match self {
-            Aspect::Stop => false,
-            Aspect::Shunting | Aspect::Slow | Aspect::Proceed => true,
-        }
+        self != Aspect::Stop
     }
+}
+
+impl From<Showing> for Aspect {
+    ghost from_gives = { λ showing aspect. aspect ≡ shown showing };
 
     /// The aspect of what a route shows.
-    pub(crate) fn of(showing: Showing) -> Aspect
-        ensures { result ≡ shown showing }
-    {
+    fn from(showing: Showing) -> Aspect {
         match showing {
             Showing::Shunting => Aspect::Shunting,
             Showing::Slow => Aspect::Slow,

@@ -12,11 +12,10 @@ impl Interlocking {
     pub fn aspect(&self, sheets: &Sheets, signal: u8) -> Aspect
         ensures { result ≡ aspect_of sheets.now self.now signal }
     {
-        let routes = sheets.routes.as_slice();
         let mut aspect = Aspect::Stop;
-        for route in 0..routes.len() {
-            if self.state(route).is_clear() && routes[route].first == signal {
-                aspect = Aspect::of(routes[route].showing);
+        for (route, sheet) in sheets.routes.as_slice().iter().enumerate() {
+            if self.state(route).is_clear() && sheet.first == signal {
+                aspect = sheet.showing.into();
             }
         }
         aspect

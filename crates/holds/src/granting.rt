@@ -1,10 +1,12 @@
 //! How a route comes into holds, and out of them.
 
-ghost use Rattle.std.specs.Prelude.{◌≡◌};
-ghost use Rattle.holds.specs.Granting.{joined_by, grant_need, needs_granted, grant_request, requests_granted, take_out, taken_out, taken_up, tried_again, given_up};
+ghost use Rattle.std.specs.Prelude.{◌≡◌, ℕ, Option};
+ghost use Rattle.layout.specs.declared.position.Position.{Position};
+ghost use Rattle.holds.specs.declared.interlocking.Interlocking.{Interlocking};
+ghost use Rattle.holds.specs.Granting.{joined_by, AnswersBy, wanted_joined, needs_granted, requests_granted, taken_out, taken_up, tried_again, given_up};
 
 use crate::interlocking::Interlocking;
-use crate::state::Turn;
+use crate::state::RouteState;
 use layout::position::Position;
 use sheets::sheet::RouteSheet;
 
@@ -14,68 +16,55 @@ impl Interlocking {
         ensures { self.new ≡ joined_by self.old route element position }
     {
         let place = element as usize;
-        let holds = &mut self.holds[..];
-        if place < holds.len() {
-            let hold = &mut holds[place];
-            hold.grant(route, position);
+        // By its place, since what is written through `get_mut` is not known afterwards.
+        if place < self.holds.len() {
+            self.holds[place].grant(route, position);
         }
     }
 
-    /// The route leaves the hold of an element.
-    fn take_out(&mut self, route: usize, element: u8)
-        ensures { self.new ≡ take_out self.old route element }
+    /// The route joins the holds of the elements that it wants, one after another, each in the position that a choice gives, if any.
+    fn join_wanted<F: Fn(&Interlocking, u8) -> Option<Position>>(
+        &mut self,
+        sheet: &RouteSheet,
+        route: usize,
+        choice: F,
+    )
+        requires { F.IsAlwaysCallable choice }
+        ensures { (rule : Interlocking → ℕ → Option Position) → AnswersBy (F.post choice) rule → self.new ≡ wanted_joined rule sheet.now route self.old }
     {
-        let place = element as usize;
-        let holds = &mut self.holds[..];
-        if place < holds.len() {
-            let hold = &mut holds[place];
-            hold.leave(route);
-        }
-    }
-
-    /// What the route itself needs of an element, it holds.
-    fn grant_need(&mut self, sheet: &RouteSheet, route: usize, element: u8)
-        ensures { self.new ≡ grant_need sheet.now route self.old element }
-    {
-        if let Some(position) = sheet.want(element).need {
-            self.join(route, element, position);
-        }
-    }
-
-    fn grant_needs(&mut self, sheet: &RouteSheet, route: usize)
-        ensures { self.new ≡ needs_granted sheet.now route self.old }
-    {
-        let wanted = sheet.wanted.as_slice();
-        for element in wanted {
-            self.grant_need(sheet, route, *element);
-        }
-    }
-
-    /// The request of an element is granted, if nobody holds it or it is held in the position requested.
-    fn grant_request(&mut self, sheet: &RouteSheet, route: usize, element: u8)
-        ensures { self.new ≡ grant_request sheet.now route self.old element }
-    {
-        if let Some(position) = sheet.want(element).request {
-            if self.hold(element).is_open_to(position) {
-                self.join(route, element, position);
+        for element in sheet.wanted.as_slice() {
+            if let Some(position) = choice(self, *element) {
+                self.join(route, *element, position);
             }
         }
     }
 
+    /// What the route itself needs, it holds.
+    fn grant_needs(&mut self, sheet: &RouteSheet, route: usize)
+        ensures { self.new ≡ needs_granted sheet.now route self.old }
+    {
+        self.join_wanted(sheet, route, |_, element| sheet.want(element).need);
+    }
+
+    /// The request of an element is granted, if nobody holds it or it is held in the position requested.
     fn grant_requests(&mut self, sheet: &RouteSheet, route: usize)
         ensures { self.new ≡ requests_granted sheet.now route self.old }
     {
-        let wanted = sheet.wanted.as_slice();
-        for element in wanted {
-            self.grant_request(sheet, route, *element);
-        }
+        self.join_wanted(sheet, route, |holds, element| {
+            let hold = holds.hold(element);
+            sheet
+                .want(element)
+                .request
+                .filter(|position| hold.is_open_to(*position))
+        });
     }
 
-    fn take_out_of_all(&mut self, route: usize)
+    /// The route leaves the holds of all elements.
+    fn leave_all(&mut self, route: usize)
         ensures { self.new ≡ taken_out self.old route 96 }
     {
-        for element in 0..96u8 {
-            self.take_out(route, element);
+        for hold in &mut self.holds {
+            hold.leave(route);
         }
     }
 
@@ -83,7 +72,7 @@ impl Interlocking {
     pub fn take_up(&mut self, sheet: &RouteSheet, route: usize)
         ensures { self.new ≡ taken_up sheet.now route self.old }
     {
-        self.change(route, self.state(route).after(Turn::Set));
+        self.change(route, RouteState::Waiting);
         self.grant_needs(sheet, route);
         self.grant_requests(sheet, route);
     }
@@ -92,7 +81,7 @@ impl Interlocking {
     pub fn try_again(&mut self, sheet: &RouteSheet, route: usize)
         ensures { self.new ≡ tried_again sheet.now route self.old }
     {
-        self.change(route, self.state(route).after(Turn::Clear));
+        self.change(route, self.state(route).waits_again());
         self.grant_requests(sheet, route);
     }
 
@@ -100,7 +89,7 @@ impl Interlocking {
     pub fn give_up(&mut self, route: usize)
         ensures { self.new ≡ given_up route self.old }
     {
-        self.change(route, self.state(route).after(Turn::Release));
-        self.take_out_of_all(route);
+        self.change(route, RouteState::Absent);
+        self.leave_all(route);
     }
 }

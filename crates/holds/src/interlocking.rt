@@ -19,6 +19,7 @@ pub struct Interlocking {
 
 impl Interlocking {
     /// Nothing is held, and all routes are absent.
+    #[tactic(auto, unfolding(crate::specs::Interlockings::idle))]
     pub fn idle() -> Interlocking
         ensures { result ≡ idle }
     {

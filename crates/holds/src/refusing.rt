@@ -6,16 +6,14 @@ ghost use Rattle.holds.specs.Refusing.{excuses, clashes, apart, admits, all_admi
 
 use crate::interlocking::Interlocking;
 use refusals::refusal::Refusal;
+use sheets::concern::Concern;
 use sheets::sheet::{RouteSheet, Sheets};
 
 /// Whether the second route begins at the last signal of the first, and the first does not have the section in its path.
 fn excuses(first: &RouteSheet, second: &RouteSheet, section: u8) -> bool
     ensures { result ≡ excuses first.now second.now section }
 {
-    match first.last_signal {
-        Some(signal) => signal == second.first && !first.use_of(section).path,
-        None => false,
-    }
+    first.last_signal == Some(second.first) && !first.use_of(section).path
 }
 
 /// Whether the second route uses a section of the first with no excuse.
@@ -30,13 +28,11 @@ fn clashes(first: &RouteSheet, second: &RouteSheet, section: u8) -> bool
 fn are_apart(first: &RouteSheet, second: &RouteSheet) -> bool
     ensures { result ≡ apart first.now second.now }
 {
-    let used = first.used.as_slice();
-    for section in used {
-        if clashes(first, second, *section) {
-            return false;
-        }
-    }
-    true
+    first
+        .used
+        .as_slice()
+        .iter()
+        .all(|section| !clashes(first, second, *section))
 }
 
 impl Interlocking {
@@ -45,34 +41,29 @@ impl Interlocking {
         ensures { result ≡ all_admit sheets.now sheet.now self.now }
     {
         let routes = sheets.routes.as_slice();
-        for other in 0..routes.len() {
-            if self.state(other).stands() && !are_apart(sheet, &routes[other]) {
-                return false;
-            }
-        }
-        true
+        routes.iter().enumerate().all(|(route, other)| {
+            let stands = self.state(route).stands();
+            !stands || are_apart(sheet, other)
+        })
     }
 
     /// Whether an element may be held as the route needs it.
     fn fits(&self, sheet: &RouteSheet, element: u8) -> bool
         ensures { result ≡ fits sheet.now self.now element }
     {
-        match sheet.want(element).need {
-            Some(position) => self.hold(element).is_open_to(position),
-            None => true,
-        }
+        let need = sheet.want(element).need;
+        need.is_none_or(|position| self.hold(element).is_open_to(position))
     }
 
+    /// Whether each element that the route needs may be held so.
     fn all_fit(&self, sheet: &RouteSheet) -> bool
         ensures { result ≡ all_fit sheet.now self.now }
     {
-        let wanted = sheet.wanted.as_slice();
-        for element in wanted {
-            if !self.fits(sheet, *element) {
-                return false;
-            }
-        }
-        true
+        sheet
+            .wanted
+            .as_slice()
+            .iter()
+            .all(|element| self.fits(sheet, *element))
     }
 
     /// Whether a route of the plan may be set, and if not, why.

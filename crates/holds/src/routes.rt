@@ -41,11 +41,6 @@ impl RouteSet {
     pub(crate) fn is_empty(&self) -> bool
         ensures { result ≡ is_empty self.now }
     {
-        for member in &self.members {
-            if *member {
-                return false;
-            }
-        }
-        true
+        !self.members.contains(&true)
     }
 }

@@ -1,27 +1,19 @@
 //! The states of a route.
 
 ghost use Rattle.std.specs.Prelude.{◌≡◌};
-ghost use Rattle.holds.specs.States.{state_number, stands, is_waiting, is_clear, falls, rises, turned};
+ghost use Rattle.holds.specs.States.{state_number, stands, is_waiting, is_clear, moved, falls, rises, waits_again};
 
 /// What has become of a route.
-#[derive(Clone, Copy)]
+#[derive(Clone, Copy, PartialEq, Eq)]
 pub enum RouteState {
     /// Not set.
-    Absent,
+    Absent = 0,
     /// Set, and not ready yet.
-    Waiting,
+    Waiting = 1,
     /// Ready: its start signal is permissive.
-    Clear,
+    Clear = 2,
     /// No longer ready: its start signal is at stop until the route is cleared again.
-    Dropped,
-}
-
-/// What an act does with a route.
-#[derive(Clone, Copy)]
-pub(crate) enum Turn {
-    Set,
-    Clear,
-    Release,
+    Dropped = 3,
 }
 
 impl RouteState {
@@ -29,71 +21,53 @@ impl RouteState {
     pub fn number(self) -> u8
         ensures { result ≡ state_number self }
     {
-        match self {
-            RouteState::Absent => 0,
-            RouteState::Waiting => 1,
-            RouteState::Clear => 2,
-            RouteState::Dropped => 3,
-        }
+        self as u8
     }
 
     /// Whether the route stands: all but absent do.
     pub fn stands(self) -> bool
         ensures { result ≡ stands self }
     {
-        match self {
-            RouteState::Absent => false,
-            RouteState::Waiting | RouteState::Clear | RouteState::Dropped => true,
-        }
+        self != RouteState::Absent
     }
 
     pub fn is_waiting(self) -> bool
         ensures { result ≡ is_waiting self }
     {
-        match self {
-            RouteState::Waiting => true,
-            RouteState::Absent | RouteState::Clear | RouteState::Dropped => false,
-        }
+        self == RouteState::Waiting
     }
 
     pub fn is_clear(self) -> bool
         ensures { result ≡ is_clear self }
     {
-        match self {
-            RouteState::Clear => true,
-            RouteState::Absent | RouteState::Waiting | RouteState::Dropped => false,
-        }
+        self == RouteState::Clear
+    }
+
+    /// The state `to`, if the route is in the state `from` and moves on.
+    fn moved(self, from: RouteState, to: RouteState, moves: bool) -> RouteState
+        ensures { result ≡ moved self from to moves }
+    {
+        if self == from && moves { to } else { self }
     }
 
     /// The state after a drop: a clear route that is not ready is dropped.
     pub fn falls(self, ready: bool) -> RouteState
         ensures { result ≡ falls self ready }
     {
-        match (self, ready) {
-            (RouteState::Clear, false) => RouteState::Dropped,
-            (state, _) => state,
-        }
+        self.moved(RouteState::Clear, RouteState::Dropped, !ready)
     }
 
     /// The state after a raise: a waiting route that is ready is clear.
     pub fn rises(self, ready: bool) -> RouteState
         ensures { result ≡ rises self ready }
     {
-        match (self, ready) {
-            (RouteState::Waiting, true) => RouteState::Clear,
-            (state, _) => state,
-        }
+        self.moved(RouteState::Waiting, RouteState::Clear, ready)
     }
 
-    /// The state after an act on the route: a set makes it wait, a clear makes a dropped route wait again, a release takes it away.
-    pub(crate) fn after(self, turn: Turn) -> RouteState
-        ensures { result ≡ turned self turn }
+    /// The state after a clear: a dropped route waits again.
+    pub(crate) fn waits_again(self) -> RouteState
+        ensures { result ≡ waits_again self }
     {
-        match (self, turn) {
-            (_, Turn::Set) => RouteState::Waiting,
-            (RouteState::Dropped, Turn::Clear) => RouteState::Waiting,
-            (state, Turn::Clear) => state,
-            (_, Turn::Release) => RouteState::Absent,
-        }
+        self.moved(RouteState::Dropped, RouteState::Waiting, true)
     }
 }

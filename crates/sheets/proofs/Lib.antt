@@ -1,1 +1,3 @@
-mod TableTurn
+mod AnyPlace
+mod Filling
+mod NumbersTurn

@@ -1,9 +1,10 @@
 //! The sheets of a whole drawing.
 
 ghost use Rattle.std.specs.Prelude.{◌≡◌};
-ghost use Rattle.bounded.specs.Lists.{blanks, empty_of};
-ghost use Rattle.sheets.specs.Sheets.{element_sheet, no_element_sheet, element_sheets, no_sheet, route_sheets, sheets_of};
+ghost use Rattle.bounded.specs.Lists.{empty_of};
+ghost use Rattle.sheets.specs.Sheets.{element_sheets, no_sheet, route_sheets, sheets_of};
 
+use crate::concern::Concern;
 use crate::route::sheet_of;
 use crate::sections::known_of;
 use crate::sheet::{ElementSheet, RouteSheet, SectionUse, Sheets, Showing, Want};
@@ -13,52 +14,34 @@ use layout::element::Element;
 use layout::kind::Kind;
 use layout::ports::element_at;
 use layout::route::Route;
-
-/// A table with no element.
-fn no_elements() -> [ElementSheet; 96]
-    ensures { result ≡ blanks 96 no_element_sheet }
-{
-    [ElementSheet {
-        kind: Kind::Track,
-        section: None,
-    }; 96]
-}
+use std::array;
 
 /// What the acts need to know of each element.
 fn element_sheets(elements: &[Element]) -> [ElementSheet; 96]
     ensures { result ≡ element_sheets elements.now }
 {
-    let mut sheets = no_elements();
-    for number in 0..96 {
+    array::from_fn(|number| {
         let element = element_at(elements, number);
-        sheets[number] = ElementSheet {
+        ElementSheet {
             kind: element.kind,
             section: element.section,
-        };
-    }
-    sheets
+        }
+    })
 }
 
 /// A list with no sheet of a route.
+#[tactic(auto, unfolding(crate::specs::Sheets::no_sheet))]
 fn no_routes() -> Bounded<RouteSheet, 64>
     ensures { result ≡ empty_of no_sheet }
 {
-    let want = Want {
-        need: None,
-        request: None,
-    };
-    let section = SectionUse {
-        path: false,
-        overlap: false,
-    };
     Bounded::empty(RouteSheet {
         showing: Showing::Shunting,
         first: 0,
         last_signal: None,
         end_lamp: None,
-        wants: [want; 96],
+        wants: [Want::NOTHING; 96],
         wanted: Bounded::empty(0),
-        sections: [section; 64],
+        sections: [SectionUse::NOTHING; 64],
         used: Bounded::empty(0),
     })
 }
@@ -68,8 +51,8 @@ fn route_sheets(elements: &[Element], routes: &[Route]) -> Bounded<RouteSheet, 6
     ensures { result ≡ route_sheets elements.now routes.now }
 {
     let mut sheets = no_routes();
-    for i in 0..routes.len() {
-        sheets.push(sheet_of(elements, &routes[i]));
+    for route in routes {
+        sheets.push(sheet_of(elements, route));
     }
     sheets
 }

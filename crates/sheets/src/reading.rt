@@ -4,6 +4,7 @@ ghost use Rattle.std.specs.Prelude.{◌≡◌};
 ghost use Rattle.std.specs.Option.{option_map};
 ghost use Rattle.sheets.specs.Reading.{sheet_at, want_of, use_of, element_of, moves, has_section};
 
+use crate::concern::Concern;
 use crate::sheet::{ElementSheet, RouteSheet, SectionUse, Sheets, Want};
 use layout::kind::Kind;
 use tables::table::at_or;
@@ -13,10 +14,7 @@ impl ElementSheet {
     pub fn moves(self) -> bool
         ensures { result ≡ moves self.kind }
     {
-        match self.kind {
-            Kind::Point | Kind::Derailer => true,
-            Kind::Track | Kind::Signal | Kind::PlanEnd => false,
-        }
+        matches!(self.kind, Kind::Point | Kind::Derailer)
     }
 }
 
@@ -25,22 +23,14 @@ impl RouteSheet {
     pub fn want(&self, element: u8) -> Want
         ensures { result ≡ want_of self.now element }
     {
-        let nothing = Want {
-            need: None,
-            request: None,
-        };
-        at_or(&self.wants, element as usize, nothing)
+        at_or(&self.wants, element as usize, Want::NOTHING)
     }
 
     /// How the route uses a section.
     pub fn use_of(&self, section: u8) -> SectionUse
         ensures { result ≡ use_of self.now section }
     {
-        let unused = SectionUse {
-            path: false,
-            overlap: false,
-        };
-        at_or(&self.sections, section as usize, unused)
+        at_or(&self.sections, section as usize, SectionUse::NOTHING)
     }
 }
 

@@ -3,7 +3,7 @@
 ghost use Rattle.std.specs.Prelude.{◌≡◌};
 ghost use Rattle.sheets.specs.Sheets.{showing_of, first_of, signal_at, is_spared, last_signal_of, end_lamp_of, sheet_of};
 
-use crate::lists::{used_in, wanted_in};
+use crate::lists::numbers_in;
 use crate::sections::sections_of;
 use crate::sheet::{RouteSheet, Showing};
 use crate::wants::wants_of;
@@ -27,58 +27,44 @@ fn showing_of(route: &Route) -> Showing
 fn signal_at(elements: &[Element], number: u8) -> Option<u8>
     ensures { result ≡ signal_at elements.now number }
 {
-    if element_at(elements, number as usize).kind.is_signal() {
-        Some(number)
-    } else {
-        None
-    }
+    element_at(elements, number as usize)
+        .kind
+        .is_signal()
+        .then_some(number)
 }
 
 /// Whether marks spare the lamp.
 fn is_spared(marks: Option<Marks>) -> bool
     ensures { result ≡ is_spared marks }
 {
-    match marks {
-        Some(marks) => marks.lamp_spared,
-        None => false,
-    }
+    marks.is_some_and(|marks| marks.lamp_spared)
 }
 
 /// The first element of a path.
 fn first_of(path: &[u8]) -> u8
     ensures { result ≡ first_of path.now }
 {
-    if path.len() > 0 { path[0] } else { 0 }
+    path.first().copied().unwrap_or(0)
 }
 
 /// The signal at which a path ends.
 fn last_signal_of(elements: &[Element], path: &[u8]) -> Option<u8>
     ensures { result ≡ last_signal_of elements.now path.now }
 {
-    if path.len() > 0 {
-        signal_at(elements, path[path.len() - 1])
-    } else {
-        None
-    }
+    path.last().and_then(|number| signal_at(elements, *number))
 }
 
 /// The signal whose lamp is to be proved at the end of a route.
 fn end_lamp_of(elements: &[Element], last_signal: Option<u8>, zero_overlap: bool) -> Option<u8>
     ensures { result ≡ end_lamp_of elements.now last_signal zero_overlap }
 {
-    match last_signal {
-        Some(signal) => {
-            if zero_overlap || is_spared(element_at(elements, signal as usize).marks) {
-                None
-            } else {
-                Some(signal)
-            }
-        }
-        None => None,
-    }
+    last_signal.filter(|signal| {
+        !(zero_overlap || is_spared(element_at(elements, *signal as usize).marks))
+    })
 }
 
 /// The sheet of a route.
+#[tactic(auto, unfolding(crate::specs::Sheets::sheet_of))]
 pub(crate) fn sheet_of(elements: &[Element], route: &Route) -> RouteSheet
     ensures { result ≡ sheet_of elements.now route.now }
 {
@@ -92,8 +78,8 @@ pub(crate) fn sheet_of(elements: &[Element], route: &Route) -> RouteSheet
         last_signal,
         end_lamp: end_lamp_of(elements, last_signal, route.zero_overlap),
         wants,
-        wanted: wanted_in(&wants),
+        wanted: numbers_in(&wants),
         sections,
-        used: used_in(&sections),
+        used: numbers_in(&sections),
     }
 }

@@ -1,8 +1,7 @@
 //! What a route wants of each element.
 
 ghost use Rattle.std.specs.Prelude.{◌≡◌};
-ghost use Rattle.bounded.specs.Lists.{blanks};
-ghost use Rattle.sheets.specs.Wants.{other, requested, moved_need, need_at, no_want, wants_of};
+ghost use Rattle.sheets.specs.Wants.{other, requested, moved_need, need_at, wants_of};
 
 use crate::sheet::Want;
 use flank::answers::Mark;
@@ -14,6 +13,7 @@ use layout::kind::Kind;
 use layout::ports::element_at;
 use layout::position::Position;
 use layout::route::Route;
+use std::array;
 
 /// The other position.
 fn other(position: Position) -> Position
@@ -50,24 +50,12 @@ fn derailer_need(kind: Kind, used: bool) -> Option<Position>
 fn need_at(elements: &[Element], route: &Route, used: bool, number: u8) -> Option<Position>
     ensures { result ≡ need_at elements.now route.now used number }
 {
-    let path = route.path_elements();
-    if path.len() > 0 && path[0] == number {
+    if route.path_elements().first() == Some(&number) {
         return Some(Position::Minus);
     }
-    match flank_of(elements, route, number) {
-        Some(flank) => Some(other(flank.leg)),
-        None => derailer_need(element_at(elements, number as usize).kind, used),
-    }
-}
-
-/// A table with nothing wanted.
-fn no_wants() -> [Want; 96]
-    ensures { result ≡ blanks 96 no_want }
-{
-    [Want {
-        need: None,
-        request: None,
-    }; 96]
+    flank_of(elements, route, number)
+        .map(|flank| other(flank.leg))
+        .or_else(|| derailer_need(element_at(elements, number as usize).kind, used))
 }
 
 /// What a route wants, by element.
@@ -76,13 +64,8 @@ pub(crate) fn wants_of(elements: &[Element], route: &Route) -> [Want; 96]
 {
     let used = used_by(elements, route);
     let marked = shields(elements, route);
-    let mut wants = no_wants();
-    for number in 0..96u8 {
-        let place = number as usize;
-        wants[place] = Want {
-            need: need_at(elements, route, used[place], number),
-            request: requested(marked[place]),
-        };
-    }
-    wants
+    array::from_fn(|number| Want {
+        need: need_at(elements, route, used[number], number as u8),
+        request: requested(marked[number]),
+    })
 }

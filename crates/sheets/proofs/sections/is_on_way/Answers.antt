@@ -1,18 +1,15 @@
-use Rattle.std.proofs.Common.{rules}
-use Rattle.layout.proofs.EveryTurn.{every_none, every_more, every_all}
-use Rattle.sheets.specs.Sections.{is_on_way}
+use Rattle.std.proofs.Common.{refl, rules, ◌∙◌, tests}
+use Rattle.std.proofs.lemmas.Iterator.{YieldsList-from_slice}
+use Rattle.std.proofs.lemmas.Iterator.Search.{any_from_yields_List}
+use Rattle.layout.specs.Ports.{at}
+use Rattle.sheets.specs.Sections.{lies_in, is_outside, is_on_way}
+use Rattle.sheets.proofs.AnyPlace.{any_place}
 use Rattle.sheets.proofs.sections.is_on_way.Goals as goal
-
-pub loop-i-init : goal.loop-i-init
-loop-i-init c = search (rules, every_none)
-
-pub loop-i-preserved : goal.loop-i-preserved
-loop-i-preserved c = search (rules, every_more)
-
-pub returns-then-lies_in : goal.returns-then-lies_in
-unfolding is_on_way
-returns-then-lies_in c = search (rules, every_more)
 
 pub returns : goal.returns
 unfolding is_on_way
-returns c = search (rules, every_all)
+returns c =
+    let es = c.args.elements.now in
+    let s = c.args.section in
+    any_from_yields_List (λ n. lies_in (at es n) s) _ _ _ c.any.ensures.ran (YieldsList-from_slice c.args.way.now cc) (λ x b q k. search (rules, tests))
+    ∙ any_place (λ n. lies_in (at es n) s) (is_outside es c.args.way.now s) c.args.way.now 0 (λ k h. refl)

@@ -1,14 +1,8 @@
-use Rattle.std.proofs.Common.{rules}
-use Rattle.sheets.specs.Sections.{known_of}
-use Rattle.sheets.proofs.TableTurn.{by_rule_none, by_rule_more}
+use Rattle.std.proofs.Common.{false, rules}
+use Rattle.sheets.specs.Sections.{is_known, known_of}
+use Rattle.sheets.proofs.Filling.{filled}
 use Rattle.sheets.proofs.sections.known_of.Goals as goal
-
-pub loop-section-init : goal.loop-section-init
-loop-section-init c = search (rules, by_rule_none)
-
-pub loop-section-preserved : goal.loop-section-preserved
-loop-section-preserved c = search (rules, by_rule_more)
 
 pub returns : goal.returns
 unfolding known_of
-returns c = search rules
+returns c = filled _ _ (is_known c.args.elements.now) 64 false _ c.from_fn.ensures.items (λ k x q h call. search rules)

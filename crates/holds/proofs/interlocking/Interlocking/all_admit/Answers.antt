@@ -1,17 +1,21 @@
-use Rattle.std.proofs.Common.{rules}
-use Rattle.layout.proofs.EveryTurn.{every_none, every_more, every_all}
-use Rattle.holds.specs.Refusing.{all_admit}
+use Rattle.std.proofs.Common.{ℕ, not, ◌||◌, refl, ◌∙◌, rules, tests}
+use Rattle.std.proofs.lemmas.Iterator.{YieldsList-from_slice}
+use Rattle.std.proofs.lemmas.Iterator.Consumers.{YieldsList-from_enumerate}
+use Rattle.std.proofs.lemmas.Iterator.Search.{all_from_yields_List}
+use Rattle.sheets.specs.declared.sheet.RouteSheet.{RouteSheet}
+use Rattle.sheets.specs.Reading.{past_the_end}
+use Rattle.holds.specs.States.{stands}
+use Rattle.holds.specs.Interlockings.{state_of}
+use Rattle.holds.specs.Refusing.{apart, admits, all_admit}
+use Rattle.holds.proofs.Tests.{all_places}
 use Rattle.holds.proofs.interlocking.Interlocking.all_admit.Goals as goal
 
-pub loop-other-init : goal.loop-other-init
-unfolding all_admit
-loop-other-init c = search (rules, every_none)
-
-pub loop-other-preserved : goal.loop-other-preserved
-loop-other-preserved c = search (rules, every_more)
-
 pub returns : goal.returns
-returns c = search (rules, every_all)
-
-pub returns-then-not-are_apart : goal.returns-then-not-are_apart
-returns-then-not-are_apart c = search (rules, every_more)
+unfolding all_admit
+returns c =
+    let t = c.args.sheets.now in
+    let s = c.args.sheet.now in
+    let i = c.args.self.now in
+    let admitted = λ (p : ℕ × RouteSheet). not (stands (state_of i p.0)) || apart s p.1 in
+    all_from_yields_List admitted _ _ _ c.all.ensures.ran (YieldsList-from_enumerate (YieldsList-from_slice c.as_slice-routes.result.now cc) cc) (λ x b q k. search (rules, tests))
+    ∙ rw c.as_slice-routes.ensures (all_places admitted (admits t s i) _ past_the_end (λ k h. refl))

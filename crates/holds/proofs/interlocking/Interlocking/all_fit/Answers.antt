@@ -1,20 +1,12 @@
-use Rattle.std.proofs.Common.{rules}
-use Rattle.std.proofs.lemmas.List.{at_drop_more, at_drop_all}
-use Rattle.sheets.specs.Lists.{all_of}
+use Rattle.std.proofs.Common.{◌∙◌, rules, tests}
+use Rattle.std.proofs.lemmas.Iterator.{YieldsList-from_slice}
+use Rattle.std.proofs.lemmas.Iterator.Search.{all_from_yields_List}
 use Rattle.holds.specs.Refusing.{fits}
+use Rattle.holds.proofs.Tests.{all_numbers}
 use Rattle.holds.proofs.interlocking.Interlocking.all_fit.Goals as goal
-
-pub returns-then-not-fits : goal.returns-then-not-fits
-returns-then-not-fits c =
-    let more = at_drop_more (all_of (fits c.args.sheet.now c.args.self.now)) c.as_slice-wanted.result.now c.loop-element.element-index 0 c.loop-element-test.true in
-    search rules
-
-pub loop-element-preserved : goal.loop-element-preserved
-loop-element-preserved c =
-    let more = at_drop_more (all_of (fits c.args.sheet.now c.args.self.now)) c.as_slice-wanted.result.now c.loop-element.element-index 0 c.loop-element-test.true in
-    search rules
 
 pub returns : goal.returns
 returns c =
-    let all = at_drop_all (all_of (fits c.args.sheet.now c.args.self.now)) c.as_slice-wanted.result.now c.loop-element.element-index c.loop-element-test.false in
-    search rules
+    let fit = fits c.args.sheet.now c.args.self.now in
+    all_from_yields_List fit _ _ _ c.all.ensures.ran (YieldsList-from_slice c.as_slice.result.now cc) (λ x b q k. search (rules, tests))
+    ∙ (all_numbers fit c.as_slice.result.now ∙ search rules)

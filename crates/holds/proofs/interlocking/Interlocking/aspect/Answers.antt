@@ -1,9 +1,11 @@
 use Rattle.std.proofs.Common.{rules}
-use Rattle.holds.proofs.Turns.{aspect_upto_none, aspect_upto_more}
+use Rattle.holds.specs.Aspects.{aspect_upto}
+use Rattle.holds.proofs.Turns.{aspect_upto_more}
 use Rattle.holds.proofs.interlocking.Interlocking.aspect.Goals as goal
 
 pub loop-route-init : goal.loop-route-init
-loop-route-init c = search (rules, aspect_upto_none)
+unfolding aspect_upto
+loop-route-init c = search rules
 
 pub loop-route-preserved : goal.loop-route-preserved
 loop-route-preserved c =

@@ -1,16 +1,9 @@
-use Rattle.std.proofs.Common.{fold, rules}
-use Rattle.std.proofs.lemmas.List.{at_drop_more, at_drop_all}
-use Rattle.holds.specs.Granting.{grant_request}
+use Rattle.std.proofs.Common.{◌∙◌, rules}
+use Rattle.sheets.specs.Reading.{wanted_by}
+use Rattle.holds.proofs.Joining.{request_choice, all_requests}
 use Rattle.holds.proofs.interlocking.Interlocking.grant_requests.Goals as goal
-
-pub loop-element-preserved : goal.loop-element-preserved
-loop-element-preserved c =
-    let more =
-    at_drop_more (fold (grant_request c.args.sheet.now c.args.route) c.loop-element.self) c.as_slice-wanted.result.now c.loop-element.element-index 0 c.loop-element-test.true in
-    search rules
 
 pub returns : goal.returns
 returns c =
-    let all =
-    at_drop_all (fold (grant_request c.args.sheet.now c.args.route) c.loop-element.self) c.as_slice-wanted.result.now c.loop-element.element-index c.loop-element-test.false in
-    search rules
+    let s = c.args.sheet.now in
+    c.join_wanted.ensures (request_choice s) (λ i e p call. search rules) ∙ all_requests s c.args.route c.args.self.now (wanted_by s)

@@ -1,7 +1,0 @@
-use Rattle.std.proofs.Common.{refl}
-use Rattle.bounded.specs.Lists.{blanks}
-use Rattle.sheets.proofs.sections.no_uses.Goals as goal
-
-pub returns : goal.returns
-unfolding blanks
-returns c = refl

@@ -1,7 +1,0 @@
-use Rattle.std.proofs.Common.{refl}
-use Rattle.bounded.specs.Lists.{blanks}
-use Rattle.sheets.proofs.wants.no_wants.Goals as goal
-
-pub returns : goal.returns
-unfolding blanks
-returns c = refl
