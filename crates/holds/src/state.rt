@@ -3,6 +3,8 @@
 ghost use Rattle.std.specs.Prelude.{◌≡◌};
 ghost use Rattle.holds.specs.States.{state_number, stands, is_waiting, is_clear, falls, rises, turned};
 
+use std::fmt;
+
 /// What has become of a route.
 #[derive(Clone, Copy)]
 pub enum RouteState {
@@ -95,5 +97,16 @@ impl RouteState {
             (state, Turn::Clear) => state,
             (_, Turn::Release) => RouteState::Absent,
         }
+    }
+}
+
+impl fmt::Display for RouteState {
+    fn fmt<W: fmt::Write>(&self, f: &mut fmt::Formatter<W>) -> fmt::Result {
+        f.write_str(match self {
+            RouteState::Absent => "absent",
+            RouteState::Waiting => "waiting",
+            RouteState::Clear => "clear",
+            RouteState::Dropped => "dropped",
+        })
     }
 }
