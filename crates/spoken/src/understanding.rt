@@ -1,12 +1,18 @@
 //! What the words of a line ask for.
 
+ghost use Rattle.std.specs.Prelude.{◌≡◌, ◌<◌, ◌==◌, length, is_ok, IfOk, IfErr, IfSome};
+ghost use Rattle.std.specs.Str.Parse.{digits_value};
+ghost use Rattle.spoken.specs.declared.mistake.Mistake.TheVariants.{WordTooMany, WantsOneNumber, WantsTwoNumbers};
+
 use crate::asked::{Asked, Look, Work};
 use crate::mistake::Mistake;
 use crate::telling::{News, Ordering, Telling};
 use crate::words::{first_word, number, two_numbers};
 
 /// The name of the command on a line, and the words after it; none where the line is empty or a comment.
-pub fn command_on<'a>(line: &'a str) -> Option<(&'a str, &'a str)> {
+pub fn command_on<'a>(line: &'a str) -> Option<(&'a str, &'a str)>
+    ensures { IfSome result (λ command. 0 < length command.0.now) }
+{
     let (name, rest) = first_word(line);
     if name.is_empty() || name.starts_with('#') {
         None
@@ -16,7 +22,10 @@ pub fn command_on<'a>(line: &'a str) -> Option<(&'a str, &'a str)> {
 }
 
 /// Nothing more, after a command that is one word.
-pub fn wants_nothing(rest: &str) -> Result<(), Mistake> {
+pub fn wants_nothing(rest: &str) -> Result<(), Mistake>
+    ensures nothing { is_ok result ≡ (length rest.now == 0) }
+    ensures mistake { IfErr result (λ mistake. mistake ≡ WordTooMany) }
+{
     if rest.is_empty() {
         Ok(())
     } else {
@@ -25,12 +34,17 @@ pub fn wants_nothing(rest: &str) -> Result<(), Mistake> {
 }
 
 /// The number after a command that wants one.
-pub fn one_wanted(rest: &str) -> Result<u8, Mistake> {
+pub fn one_wanted(rest: &str) -> Result<u8, Mistake>
+    ensures number { IfOk result (λ n. n ≡ digits_value 10 rest.now) }
+    ensures mistake { IfErr result (λ mistake. mistake ≡ WantsOneNumber) }
+{
     number(rest).ok_or(Mistake::WantsOneNumber)
 }
 
 /// The numbers after a command that wants two.
-pub fn two_wanted(rest: &str) -> Result<(u8, u8), Mistake> {
+pub fn two_wanted(rest: &str) -> Result<(u8, u8), Mistake>
+    ensures { IfErr result (λ mistake. mistake ≡ WantsTwoNumbers) }
+{
     two_numbers(rest).ok_or(Mistake::WantsTwoNumbers)
 }
 
