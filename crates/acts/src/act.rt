@@ -1,5 +1,7 @@
 //! What can be done with a station.
 
+use std::fmt;
+
 /// What the outdoor equipment tells, with the number of an element or section and a value.
 #[derive(Clone, Copy)]
 pub enum Event {
@@ -24,4 +26,26 @@ pub enum Act {
     Release { route: u8 },
     /// Something is told.
     Tell { event: Event },
+}
+
+impl fmt::Display for Event {
+    fn fmt<W: fmt::Write>(&self, f: &mut fmt::Formatter<W>) -> fmt::Result {
+        match *self {
+            Event::Report { element, value } => write!(f, "report {element} {value}"),
+            Event::Block { element, value } => write!(f, "block {element} {value}"),
+            Event::Lamp { signal, value } => write!(f, "lamp {signal} {value}"),
+            Event::Occupation { section, value } => write!(f, "occupy {section} {value}"),
+        }
+    }
+}
+
+impl fmt::Display for Act {
+    fn fmt<W: fmt::Write>(&self, f: &mut fmt::Formatter<W>) -> fmt::Result {
+        match *self {
+            Act::Set { route } => write!(f, "set {route}"),
+            Act::Clear { route } => write!(f, "clear {route}"),
+            Act::Release { route } => write!(f, "release {route}"),
+            Act::Tell { event } => write!(f, "{event}"),
+        }
+    }
 }

@@ -5,18 +5,9 @@ mod rounds;
 mod stations;
 
 use plan::plan::Plan;
-use rounds::{Tally, worked};
+use rounds::worked;
 use stations::ring;
 use std::io::{BufRead, BufReader};
-
-/// Prints how many acts there were, how many of them were accepted, and the sum of all aspects that were seen.
-fn print_tally(rt: &HostRuntime, rounds: u32, tally: Tally) -> anyhow::Result<()> {
-    let acts = tally.acts;
-    let accepted = tally.accepted;
-    let aspects = tally.aspects;
-    println!(rt; "rounds {rounds}, acts {acts}, accepted {accepted}, aspects {aspects}")?;
-    Ok(())
-}
 
 fn main(rt: HostRuntime) -> anyhow::Result<()> {
     let bytes = ring(rt.alloc())?;
@@ -28,7 +19,8 @@ fn main(rt: HostRuntime) -> anyhow::Result<()> {
         let elements = drawing.elements.as_slice().len();
         let routes = drawing.routes.as_slice().len();
         println!(rt; "plan accepted {accepted}, elements {elements}, routes {routes}")?;
-        print_tally(&rt, rounds, worked(plan, rounds))?;
+        let tally = worked(plan, rounds);
+        println!(rt; "rounds {rounds}, {tally}")?;
     }
     Ok(())
 }

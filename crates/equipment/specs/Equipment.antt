@@ -1,23 +1,22 @@
 -- What a field in one of two forms means.
-use Rattle.std.specs.Prelude.{Bool, true, false}
+use Rattle.std.specs.Prelude.{ℕ, List, Bool, true, false, Option, Some, None}
 use Rattle.field.specs.Meaning.{Meaning}
-use Rattle.tablefield.specs.declared.table.TableField.{TableField}
 use Rattle.tablefield.specs.Table.{table_meaning}
-use Rattle.contacts.specs.declared.picture.ContactPicture.{ContactPicture}
 use Rattle.contacts.specs.Picture.{picture_meaning}
-use Rattle.equipment.specs.declared.equipment.Form.{Form}
-use Rattle.equipment.specs.declared.equipment.Form.TheVariants.{Table, Contacts}
 use Rattle.equipment.specs.declared.equipment.Equipment.{Equipment}
+use Rattle.equipment.specs.declared.equipment.Equipment.TheVariants.{Table, Contacts}
 
--- The form in use decides: the other one means nothing.
-abbrev pub form_meaning : Form → TableField → ContactPicture → Meaning
-form_meaning Table t p = table_meaning t
-form_meaning Contacts t p = picture_meaning p
-
+-- A field means what its form means.
 abbrev pub equipment_meaning : Equipment → Meaning
-equipment_meaning e = form_meaning e.form e.table e.picture
+equipment_meaning (Table t) = table_meaning t
+equipment_meaning (Contacts p) = picture_meaning p
 
--- Whether a form is that of a contact picture.
-abbrev pub has_contacts : Form → Bool
-has_contacts Table = false
-has_contacts Contacts = true
+-- Whether a field is a contact picture.
+abbrev pub has_contacts : Equipment → Bool
+has_contacts (Table t) = false
+has_contacts (Contacts p) = true
+
+-- The bytes of a contact picture; a table has none.
+abbrev pub picture_bytes : Equipment → Option (List ℕ)
+picture_bytes (Table t) = None
+picture_bytes (Contacts p) = Some p.bytes

@@ -5,20 +5,12 @@ use field::field::Field;
 use layout::position::Position;
 use tablefield::table::TableField;
 
-/// The place of a position among the positions and none.
-fn number_of(position: Option<Position>) -> u8 {
-    match position {
-        Some(position) => position.number(),
-        None => 2,
-    }
-}
-
 /// Whether two fields answer alike at a number.
 fn alike<F: Field, G: Field>(one: &F, other: &G, number: u8) -> bool {
-    number_of(one.report(number)) == number_of(other.report(number))
+    one.report(number) == other.report(number)
         && one.is_blocked(number) == other.is_blocked(number)
         && one.is_burning(number) == other.is_burning(number)
-        && number_of(one.standing_order(number)) == number_of(other.standing_order(number))
+        && one.standing_order(number) == other.standing_order(number)
         && one.is_occupied(number) == other.is_occupied(number)
 }
 
@@ -35,18 +27,14 @@ fn send<F: Field>(field: &mut F, number: u8) {
 }
 
 /// How many numbers there are at which the two fields answer otherwise.
-pub fn differing() -> u16 {
+pub fn differing() -> usize {
     let mut table = TableField::fresh();
     let mut picture = ContactPicture::of([0; 104]);
-    let mut count: u16 = 0;
     for number in 0..=255u8 {
         send(&mut table, number);
         send(&mut picture, number);
     }
-    for number in 0..=255u8 {
-        if !alike(&table, &picture, number) {
-            count = count.saturating_add(1);
-        }
-    }
-    count
+    (0..=255u8)
+        .filter(|number| !alike(&table, &picture, *number))
+        .count()
 }

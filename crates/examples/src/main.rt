@@ -2,7 +2,6 @@
 #![tactic(auto)]
 
 mod fields;
-mod stations;
 
 ghost use Rattle.examples.specs.Worked.{WorkedExamples};
 
@@ -11,6 +10,7 @@ use flank::answers::{Branch, Request};
 use layout::position::Position;
 use plan::plan::Plan;
 use std::io;
+use worked_plans::plans;
 
 /// The worked examples hold of the definitions.
 pub fn examples_hold() -> bool
@@ -22,12 +22,7 @@ pub fn examples_hold() -> bool
 fn show(rt: &HostRuntime, what: &str, answer: Result<(), Fault>) -> io::Result<()> {
     match answer {
         Ok(()) => println!(rt; "{what}: accepted"),
-        Err(fault) => {
-            let number = fault.number();
-            let layer = fault.layer();
-            let place = fault.place;
-            println!(rt; "{what}: fault {number}, layer {layer}, place {place}")
-        }
+        Err(fault) => println!(rt; "{what}: {fault}"),
     }
 }
 
@@ -42,14 +37,10 @@ fn list_flanks(rt: &HostRuntime, plan: &Plan) -> io::Result<()> {
     if let Ok((request_count, branch_count)) = plan.flanks(0, &mut requests, &mut branches) {
         println!(rt; "{request_count} requests, {branch_count} open branches")?;
         for request in requests.iter().take(request_count) {
-            let element = request.element;
-            let position = request.position.number();
-            println!(rt; "  request {element} {position}")?;
+            println!(rt; "  {request}")?;
         }
         for branch in branches.iter().take(branch_count) {
-            let from = branch.from;
-            let last = branch.last;
-            println!(rt; "  open {from} {last}")?;
+            println!(rt; "  {branch}")?;
         }
     }
     Ok(())
@@ -67,7 +58,7 @@ fn show_flanks(rt: &HostRuntime, what: &str, bytes: &[u8]) -> io::Result<()> {
 }
 
 fn readings(rt: &HostRuntime) -> io::Result<()> {
-    let k = *stations::K;
+    let k = *plans::K;
     let mut plan = Plan::fresh();
     show(rt, "no bytes", plan.read(&[]))?;
     show(rt, "the first 55 bytes of K", plan.read(&k[0..55]))?;
@@ -85,51 +76,47 @@ fn readings(rt: &HostRuntime) -> io::Result<()> {
 }
 
 fn flanks(rt: &HostRuntime) -> io::Result<()> {
-    show_flanks(rt, "K", stations::K)?;
-    show_flanks(rt, "K with point 5 turned", stations::K_TURNED)?;
-    show_flanks(rt, "the same with a shunting route", stations::K_SHUNTING)?;
-    show_flanks(rt, "a walk ends at a track", stations::BY_TRACK)?;
-    show_flanks(rt, "a walk comes to a derailer", stations::BY_DERAILER)?;
+    show_flanks(rt, "K", plans::K)?;
+    show_flanks(rt, "K with point 5 turned", plans::K_TURNED)?;
+    show_flanks(rt, "the same with a shunting route", plans::K_SHUNTING)?;
+    show_flanks(rt, "a walk ends at a track", plans::BY_TRACK)?;
+    show_flanks(rt, "a walk comes to a derailer", plans::BY_DERAILER)?;
     show_flanks(
         rt,
         "a marked signal met at its front",
-        stations::BY_SIGNAL_FRONT,
+        plans::BY_SIGNAL_FRONT,
     )?;
-    show_flanks(
-        rt,
-        "a marked signal met at its rear",
-        stations::BY_SIGNAL_REAR,
-    )?;
+    show_flanks(rt, "a marked signal met at its rear", plans::BY_SIGNAL_REAR)?;
     show_flanks(
         rt,
         "a dual point that prefers plus, met at its minus leg",
-        stations::DUAL_PLUS,
+        plans::DUAL_PLUS,
     )?;
     show_flanks(
         rt,
         "a dual point that prefers minus, met at its minus leg",
-        stations::DUAL_MINUS,
+        plans::DUAL_MINUS,
     )?;
-    show_flanks(rt, "three points that are not able", stations::THREE_POINTS)?;
+    show_flanks(rt, "three points that are not able", plans::THREE_POINTS)?;
     show_flanks(
         rt,
         "a walk that comes back to the overlap of its route",
-        stations::BACK_TO_ROUTE,
+        plans::BACK_TO_ROUTE,
     )?;
     show_flanks(
         rt,
         "a point beyond whose toe, behind a signal, the route comes next",
-        stations::BACK_BEYOND_TOE,
+        plans::BACK_BEYOND_TOE,
     )?;
     show_flanks(
         rt,
         "a point of an overlap, whose walks reach one point only",
-        stations::IN_OVERLAP,
+        plans::IN_OVERLAP,
     )?;
     show_flanks(
         rt,
         "a chain of signals, and then a derailer",
-        stations::CHAIN_OF_SIGNALS,
+        plans::CHAIN_OF_SIGNALS,
     )
 }
 

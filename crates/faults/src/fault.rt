@@ -3,6 +3,8 @@
 ghost use Rattle.std.specs.Prelude.{◌≡◌};
 ghost use Rattle.faults.specs.Numbers.{number_of, layer_of};
 
+use std::fmt;
+
 /// Why a plan is rejected.
 #[derive(Clone, Copy)]
 pub enum Cause {
@@ -50,5 +52,18 @@ impl Fault {
             Cause::Fields | Cause::Join | Cause::EntryMarked => 2,
             Cause::Path | Cause::Overlap | Cause::BothWays => 3,
         }
+    }
+}
+
+impl fmt::Display for Fault {
+    ghost use Rattle.std.specs.Prelude.{Some, codes, decimal, ◌++◌};
+
+    ghost output = { λ fault. Some (codes "fault " ++ (decimal (number_of fault.cause) ++ (codes ", layer " ++ (decimal (layer_of fault.cause) ++ (codes ", place " ++ decimal fault.place))))) };
+
+    fn fmt<W: fmt::Write>(&self, f: &mut fmt::Formatter<W>) -> fmt::Result {
+        let number = self.number();
+        let layer = self.layer();
+        let place = self.place;
+        write!(f, "fault {number}, layer {layer}, place {place}")
     }
 }

@@ -3,6 +3,8 @@
 ghost use Rattle.std.specs.Prelude.{◌≡◌};
 ghost use Rattle.holds.specs.States.{state_number, stands, is_waiting, is_clear, moved, falls, rises, waits_again};
 
+use std::fmt;
+
 /// What has become of a route.
 #[derive(Clone, Copy, PartialEq, Eq)]
 pub enum RouteState {
@@ -69,5 +71,16 @@ impl RouteState {
         ensures { result ≡ waits_again self }
     {
         self.moved(RouteState::Dropped, RouteState::Waiting, true)
+    }
+}
+
+impl fmt::Display for RouteState {
+    fn fmt<W: fmt::Write>(&self, f: &mut fmt::Formatter<W>) -> fmt::Result {
+        f.write_str(match self {
+            RouteState::Absent => "absent",
+            RouteState::Waiting => "waiting",
+            RouteState::Clear => "clear",
+            RouteState::Dropped => "dropped",
+        })
     }
 }

@@ -6,6 +6,7 @@ ghost use Rattle.protection.specs.Shields.{shield_of};
 use flank::answers::Request;
 use holds::interlocking::Interlocking;
 use layout::position::Position;
+use std::fmt;
 
 /// An element that a route requests to shield a flank, the position in which it is requested, and whether the route holds it in that position.
 #[derive(Clone, Copy, PartialEq, Eq)]
@@ -26,5 +27,19 @@ impl Shield {
             position,
             held: interlocking.is_held_in(route, element, position),
         }
+    }
+}
+
+impl fmt::Display for Shield {
+    ghost use Rattle.std.specs.Prelude.{Some, codes, cond, decimal, ◌++◌};
+    ghost use Rattle.layout.specs.Numbers.{position_number};
+
+    ghost output = { λ shield. Some (codes "request " ++ (decimal shield.element ++ (codes " " ++ (decimal (position_number shield.position) ++ (codes " " ++ cond shield.held (codes "held") (codes "not held")))))) };
+
+    fn fmt<W: fmt::Write>(&self, f: &mut fmt::Formatter<W>) -> fmt::Result {
+        let element = self.element;
+        let position = self.position.number();
+        let held = if self.held { "held" } else { "not held" };
+        write!(f, "request {element} {position} {held}")
     }
 }

@@ -3,6 +3,8 @@
 ghost use Rattle.std.specs.Prelude.{◌≡◌};
 ghost use Rattle.refusals.specs.Numbers.{number_of};
 
+use std::fmt;
+
 /// Why a call is refused.
 #[derive(Clone, Copy)]
 pub enum Refusal {
@@ -30,5 +32,22 @@ impl Refusal {
         ensures { result ≡ number_of self }
     {
         self as u8
+    }
+}
+
+impl fmt::Display for Refusal {
+    fn fmt<W: fmt::Write>(&self, f: &mut fmt::Formatter<W>) -> fmt::Result {
+        let number = self.number();
+        let words = match self {
+            Refusal::NoSuchRoute => "no such route",
+            Refusal::StandsAlready => "the route stands already",
+            Refusal::SectionInUse => "another route uses a section of it",
+            Refusal::HeldOtherwise => "an element is held in the other position",
+            Refusal::NotStanding => "the route does not stand",
+            Refusal::PathOccupied => "a section of its path is occupied",
+            Refusal::NotOfThePlan => "the plan has no such number, or there is no such value",
+            Refusal::ListTooShort => "a list is too short",
+        };
+        write!(f, "refused {number}, {words}")
     }
 }

@@ -1,8 +1,6 @@
 //! Whole runs: a station is opened on a small plan, acts are performed, and signals are looked at.
 #![tactic(auto)]
 
-mod stations;
-
 ghost use Rattle.runs.specs.Runs.{WorkedRuns};
 
 use acts::act::{Act, Event};
@@ -14,6 +12,7 @@ use station::journal::Entry;
 use station::running::perform_all;
 use std::alloc::{AllocError, Global};
 use tablefield::table::TableField;
+use worked_plans::plans;
 
 /// The worked runs hold of the definitions.
 pub fn runs_hold() -> bool
@@ -40,14 +39,12 @@ fn burning(signal: u8) -> Act {
 
 /// A journal of acts.
 fn journal_of(heap: Global, acts: &[Act]) -> Result<Vec<Entry>, AllocError> {
-    let mut journal = Vec::new(heap);
-    for act in acts {
-        journal.push(Entry {
+    acts.iter()
+        .map(|act| Entry {
             act: *act,
             refusal: None,
-        })?;
-    }
-    Ok(journal)
+        })
+        .collect(heap)
 }
 
 /// The number of what a signal shows once the acts of a journal are performed; 255 where there is no such signal.
@@ -55,10 +52,7 @@ fn shown<F: Field + Drop>(bytes: &[u8], field: F, journal: &mut [Entry], signal:
     let mut plan = Plan::fresh();
     let _ = plan.read(bytes);
     let station = perform_all(plan, field, journal);
-    let shown = match station.aspect(signal) {
-        Ok(aspect) => aspect.number(),
-        Err(_) => 255,
-    };
+    let shown = station.aspect(signal).map_or(255, |aspect| aspect.number());
     let ClosedStation { plan: _, field: _ } = station.close();
     shown
 }
@@ -92,7 +86,7 @@ fn on_k(rt: &HostRuntime) -> anyhow::Result<()> {
         reported(5, 0),
         CLEAR,
     ];
-    let k = stations::K;
+    let k = plans::K;
     show(
         rt,
         "K, its route set, its points reported and the end lamp burning",
@@ -108,7 +102,7 @@ fn on_k(rt: &HostRuntime) -> anyhow::Result<()> {
 /// Runs on two routes in prolongation, with dark lamps.
 fn on_two_routes(rt: &HostRuntime) -> anyhow::Result<()> {
     let acts = [SET, SET_NEXT, burning(4)];
-    let two = stations::TWO_ROUTES;
+    let two = plans::TWO_ROUTES;
     show(
         rt,
         "two routes in prolongation, all lamps dark",

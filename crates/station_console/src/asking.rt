@@ -1,24 +1,18 @@
 //! Questions to an open station.
 
-use crate::looking::{MOST_BRANCHES, MOST_REQUESTS, print_branches};
-use crate::refused::{print_refusal, word_of};
 use equipment::equipment::Equipment;
 use flank::answers::Branch;
-use layout::kind::Kind;
 use layout::position::Position;
 use protection::shield::Shield;
+use spoken::looking::{MOST_BRANCHES, MOST_REQUESTS, print_lines};
 use station::open_station::OpenStation;
 use std::io;
 
 /// Prints the state of a route.
 pub fn show_state(rt: &HostRuntime, station: &OpenStation<Equipment>, route: u8) -> io::Result<()> {
-    print!(rt; "state {route}: ")?;
     match station.state(route) {
-        Ok(state) => {
-            let word = word_of(state);
-            println!(rt; "{word}")
-        }
-        Err(refusal) => print_refusal(rt, refusal),
+        Ok(state) => println!(rt; "state {route}: {state}"),
+        Err(refusal) => println!(rt; "state {route}: {refusal}"),
     }
 }
 
@@ -28,46 +22,25 @@ pub fn show_aspect(
     station: &OpenStation<Equipment>,
     signal: u8,
 ) -> io::Result<()> {
-    print!(rt; "aspect {signal}: ")?;
     match station.aspect(signal) {
         Ok(aspect) => {
             let number = aspect.number();
-            println!(rt; "{number}")
+            println!(rt; "aspect {signal}: {number}")
         }
-        Err(refusal) => print_refusal(rt, refusal),
-    }
-}
-
-fn is_signal(kind: Kind) -> bool {
-    match kind {
-        Kind::Signal => true,
-        Kind::Track | Kind::Point | Kind::Derailer | Kind::PlanEnd => false,
+        Err(refusal) => println!(rt; "aspect {signal}: {refusal}"),
     }
 }
 
 /// Prints the states of all routes and the aspects of all signals of the plan.
 pub fn show_station(rt: &HostRuntime, station: &OpenStation<Equipment>) -> io::Result<()> {
     let drawing = station.plan().drawing();
-    let routes = drawing.routes.as_slice().len();
-    for route in 0..64u8 {
-        if (route as usize) < routes {
-            show_state(rt, station, route)?;
-        }
+    for (route, _) in (0..64u8).zip(drawing.routes.as_slice()) {
+        show_state(rt, station, route)?;
     }
     for (number, element) in (0..96u8).zip(drawing.elements.as_slice()) {
-        if is_signal(element.kind) {
+        if element.kind.is_signal() {
             show_aspect(rt, station, number)?;
         }
-    }
-    Ok(())
-}
-
-fn print_shields(rt: &HostRuntime, shields: &[Shield]) -> io::Result<()> {
-    for shield in shields {
-        let element = shield.element;
-        let position = shield.position.number();
-        let held = if shield.held { "held" } else { "not held" };
-        println!(rt; "  request {element} {position} {held}")?;
     }
     Ok(())
 }
@@ -92,10 +65,10 @@ fn print_protection(
             println!(rt; "{request_count} requests, {branch_count} open branches")?;
             shields.truncate(request_count);
             branches.truncate(branch_count);
-            print_shields(rt, shields.as_slice())?;
-            print_branches(rt, branches.as_slice())?;
+            print_lines(rt, shields.as_slice())?;
+            print_lines(rt, branches.as_slice())?;
         }
-        Err(refusal) => print_refusal(rt, refusal)?,
+        Err(refusal) => println!(rt; "{refusal}")?,
     }
     Ok(())
 }

@@ -3,29 +3,27 @@
 
 mod acting;
 mod asking;
+mod closed_session;
 mod command;
-mod hex;
-mod looking;
-mod preparing;
-mod refused;
+mod open_session;
 mod replay;
 mod session;
 mod understanding;
-mod working;
 
-use command::Command;
 use session::Session;
+use spoken::mistake::Mistake;
+use spoken::understanding::command_on;
 use std::io::{BufRead, BufReader};
-use understanding::{understood, with_blanks};
+use understanding::understood;
 
 /// Does what a line asks for.
 fn carry_out(rt: &HostRuntime, session: Session, line: &str) -> anyhow::Result<Session> {
-    match with_blanks(rt.alloc(), line) {
-        Ok(line) => session.carry_out(rt, understood(line.as_str())),
-        Err(error) => {
-            session.end();
-            Err(error.into())
-        }
+    let Some((name, rest)) = command_on(line) else {
+        return Ok(session);
+    };
+    match understood(name, rest) {
+        Ok(command) => session.carry_out(rt, command),
+        Err(mistake) => session.correct(rt, mistake),
     }
 }
 
@@ -35,7 +33,7 @@ fn main(rt: HostRuntime) -> anyhow::Result<()> {
     for line in input.lines(rt.alloc()) {
         session = match line {
             Ok(text) => carry_out(&rt, session, text.as_str())?,
-            Err(_) => session.carry_out(&rt, Command::Wrong("the line is no text"))?,
+            Err(_) => session.correct(&rt, Mistake::NoText)?,
         };
     }
     session.end();

@@ -1,8 +1,7 @@
 //! The acts since the opening, performed again.
 
 use crate::acting::print_entry;
-use crate::looking::number_of;
-use crate::working::OpenSession;
+use crate::open_session::OpenSession;
 use equipment::equipment::Equipment;
 use field::field::Field;
 use plan::plan::Plan;
@@ -14,55 +13,52 @@ use std::alloc::{AllocError, Global};
 
 /// The acts of a journal, without their answers.
 fn unanswered(heap: Global, journal: &[Entry]) -> Result<Vec<Entry>, AllocError> {
-    let mut acts = Vec::new(heap);
-    for entry in journal {
-        acts.push(Entry {
+    journal
+        .iter()
+        .map(|entry| Entry {
             act: entry.act,
             refusal: None,
-        })?;
-    }
-    Ok(acts)
+        })
+        .collect(heap)
 }
 
-/// The number of a route's state, or of the refusal.
-fn state_number(station: &OpenStation<Equipment>, route: u8) -> u8 {
-    match station.state(route) {
-        Ok(state) => state.number(),
-        Err(refusal) => refusal.number(),
+/// Whether a route is in the same state in two stations, or refused for the same reason.
+fn is_same_route(one: &OpenStation<Equipment>, other: &OpenStation<Equipment>, route: u8) -> bool {
+    match (one.state(route), other.state(route)) {
+        (Ok(one), Ok(other)) => one.number() == other.number(),
+        (Err(one), Err(other)) => one.number() == other.number(),
+        _ => false,
     }
 }
 
-/// The number of a signal's aspect, or of the refusal.
-fn aspect_number(station: &OpenStation<Equipment>, signal: u8) -> u8 {
-    match station.aspect(signal) {
-        Ok(aspect) => aspect.number(),
-        Err(refusal) => refusal.number(),
+/// Whether a signal shows the same in two stations, or is refused for the same reason.
+fn is_same_signal(
+    one: &OpenStation<Equipment>,
+    other: &OpenStation<Equipment>,
+    signal: u8,
+) -> bool {
+    match (one.aspect(signal), other.aspect(signal)) {
+        (Ok(one), Ok(other)) => one.number() == other.number(),
+        (Err(one), Err(other)) => one.number() == other.number(),
+        _ => false,
     }
 }
 
 /// Whether two fields answer the same of an element.
 fn is_same_element(one: &Equipment, other: &Equipment, element: u8) -> bool {
-    number_of(one.report(element)) == number_of(other.report(element))
+    one.report(element) == other.report(element)
         && one.is_blocked(element) == other.is_blocked(element)
         && one.is_burning(element) == other.is_burning(element)
-        && number_of(one.standing_order(element)) == number_of(other.standing_order(element))
+        && one.standing_order(element) == other.standing_order(element)
 }
 
 /// Whether two stations answer the same: states, aspects, and what their fields answer.
 fn is_same(one: &OpenStation<Equipment>, other: &OpenStation<Equipment>) -> bool {
-    let mut same = true;
-    for route in 0..64u8 {
-        same = same && state_number(one, route) == state_number(other, route);
-    }
-    for element in 0..96u8 {
-        same = same
-            && aspect_number(one, element) == aspect_number(other, element)
-            && is_same_element(one.field(), other.field(), element);
-    }
-    for section in 0..64u8 {
-        same = same && one.field().is_occupied(section) == other.field().is_occupied(section);
-    }
-    same
+    let (field, other_field) = (one.field(), other.field());
+    (0..64u8).all(|route| is_same_route(one, other, route))
+        && (0..96u8).all(|signal| is_same_signal(one, other, signal))
+        && (0..96u8).all(|element| is_same_element(field, other_field, element))
+        && (0..64u8).all(|section| field.is_occupied(section) == other_field.is_occupied(section))
 }
 
 /// The plan that bytes were read into; the fresh one where they were none.

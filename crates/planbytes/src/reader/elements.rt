@@ -42,12 +42,12 @@ impl Recorded for Element {
         let sort = reader.read_if(map.has(6), 0..=2)?;
         let marks = reader.read_if(map.has(7), 1..=3)?;
         Ok(Element {
-            kind: kind.map_or(Kind::Track, Kind::of),
+            kind: kind.map_or(Kind::Track, Kind::from),
             joins: [first, second, third],
             section,
-            dual: dual.map(Dual::of),
-            sort: sort.map(Sort::of),
-            marks: marks.map(Marks::of),
+            dual: dual.map(Dual::from),
+            sort: sort.map(Sort::from),
+            marks: marks.map(Marks::from),
         })
     }
 }

@@ -40,7 +40,7 @@ impl Recorded for Route {
         let overlap = reader.read_if(map.has(2), ListField(1..=8))?;
         let zero = reader.read_if(map.has(3), 1..=1)?;
         Ok(Route {
-            class: class.map_or(RouteClass::Shunting, RouteClass::of),
+            class: class.map_or(RouteClass::Shunting, RouteClass::from),
             path,
             overlap,
             zero_overlap: zero.is_some(),

@@ -1,12 +1,14 @@
 //! An open station and what is done to it.
 
 use crate::acting::print_entry;
-use crate::asking::{show_aspect, show_protection, show_protection_lent, show_state};
-use crate::command::Question;
-use crate::preparing::ClosedSession;
+use crate::asking::{show_aspect, show_protection, show_protection_lent, show_state, show_station};
+use crate::closed_session::ClosedSession;
+use crate::command::{Command, Question};
 use crate::replay::replay;
 use acts::act::Act;
 use equipment::equipment::Equipment;
+use spoken::asked::{Asked, Look};
+use spoken::looking::see;
 use station::closed::ClosedStation;
 use station::journal::Entry;
 use station::open_station::OpenStation;
@@ -48,30 +50,46 @@ impl OpenSession {
     }
 
     /// Performs an act, notes it with its answer, and says what the answer was.
-    pub fn perform(&mut self, rt: &HostRuntime, act: Act) -> anyhow::Result<()> {
-        let refusal = match self.station.perform(act) {
-            Ok(()) => None,
-            Err(refusal) => Some(refusal),
-        };
+    fn perform(&mut self, rt: &HostRuntime, act: Act) -> anyhow::Result<()> {
+        let refusal = self.station.perform(act).err();
         let entry = Entry { act, refusal };
         self.journal.push(entry)?;
         print_entry(rt, entry)?;
         Ok(())
     }
 
-    pub fn answer(&self, rt: &HostRuntime, question: Question) -> anyhow::Result<()> {
+    fn answer(&self, rt: &HostRuntime, question: Question) -> anyhow::Result<()> {
         match question {
             Question::State(route) => show_state(rt, &self.station, route)?,
             Question::Aspect(signal) => show_aspect(rt, &self.station, signal)?,
             Question::Protection(route) => show_protection(rt, &self.station, route)?,
-            Question::Lent(route, requests, branches) => show_protection_lent(
-                rt,
-                &self.station,
+            Question::Lent {
                 route,
                 requests,
                 branches,
-            )?,
+            } => show_protection_lent(rt, &self.station, route, requests, branches)?,
             Question::Replay => replay(rt, self)?,
+        }
+        Ok(())
+    }
+
+    fn see(&self, rt: &HostRuntime, look: Look) -> anyhow::Result<()> {
+        if let Look::All = look {
+            show_station(rt, &self.station)?;
+        }
+        see(rt, self.station.plan(), self.station.field(), look)
+    }
+
+    /// Prints what a command does that leaves the station open.
+    pub fn stay(&mut self, rt: &HostRuntime, command: Command<'_>) -> anyhow::Result<()> {
+        match command {
+            Command::Perform(act) => self.perform(rt, act)?,
+            Command::Ask(question) => self.answer(rt, question)?,
+            Command::Usual(Asked::See(look)) => self.see(rt, look)?,
+            Command::Close => println!(rt; "station: closed")?,
+            Command::Usual(Asked::Plan(_) | Asked::Field(_)) | Command::Open => println!(rt;
+                "error: the station is open"
+            )?,
         }
         Ok(())
     }

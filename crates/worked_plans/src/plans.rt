@@ -1,4 +1,4 @@
-//! Small stations, each drawn for one rule; a line of bytes is a record.
+//! Small stations as the bytes of plan files, each drawn for one rule; a line of bytes is a record.
 
 /// Signals 1 and 3 with point 2 between them, and point 5 at its flank; a train route from 1 to 3.
 pub const K: &[u8; 56] = b"\
@@ -38,6 +38,19 @@ pub const K_SHUNTING: &[u8; 55] = b"\
     \x03\x04\x05\x01\
     \x03\x04\x05\x02\
     \x02\x03\x01\x02\x03";
+
+/// Signals 0, 2 and 4 with a track between each two; a train route from 0 to 2, and one from 2 to 4 in its prolongation.
+pub const TWO_ROUTES: &[u8; 55] = b"\
+    \x07\x02\
+    \x47\x03\x05\x00\x01\x00\x01\
+    \x16\x00\x01\x02\x00\x01\
+    \x47\x03\x01\x01\x03\x00\x01\
+    \x16\x02\x01\x04\x00\x02\
+    \x47\x03\x03\x01\x06\x00\x01\
+    \x03\x04\x00\x00\
+    \x03\x04\x04\x01\
+    \x03\x01\x03\x00\x01\x02\
+    \x03\x01\x03\x02\x03\x04";
 
 /// A walk ends at a track.
 pub const BY_TRACK: &[u8; 49] = b"\

@@ -1,28 +1,20 @@
 //! What can be seen at any time: the field and the flanks of routes.
 
-use crate::refused::print_refusal;
+use crate::asked::Look;
+use crate::telling::number_of;
 use equipment::equipment::Equipment;
 use field::field::Field;
 use flank::answers::{Branch, Request};
 use layout::position::Position;
 use plan::plan::Plan;
-use std::io;
+use std::{fmt, io};
 
 /// No route has more requests, nor more open branches, than these lists have places.
 pub const MOST_REQUESTS: usize = 192;
 
 pub const MOST_BRANCHES: usize = 9216;
 
-/// A report or a standing order in numbers: 2 for none.
-pub fn number_of(position: Option<Position>) -> u8 {
-    match position {
-        Some(position) => position.number(),
-        None => 2,
-    }
-}
-
-/// Prints what the field answers of an element.
-pub fn show_element(rt: &HostRuntime, field: &Equipment, element: u8) -> io::Result<()> {
+fn show_element(rt: &HostRuntime, field: &Equipment, element: u8) -> io::Result<()> {
     let report = number_of(field.report(element));
     let blocked = u8::from(field.is_blocked(element));
     let lamp = u8::from(field.is_burning(element));
@@ -32,19 +24,15 @@ pub fn show_element(rt: &HostRuntime, field: &Equipment, element: u8) -> io::Res
     )
 }
 
-/// Prints what the field answers of a section.
-pub fn show_section(rt: &HostRuntime, field: &Equipment, section: u8) -> io::Result<()> {
+fn show_section(rt: &HostRuntime, field: &Equipment, section: u8) -> io::Result<()> {
     let occupied = u8::from(field.is_occupied(section));
     println!(rt; "section {section}: occupied {occupied}")
 }
 
 /// Prints what the field answers of each element of the plan, and of each section.
-pub fn show_field(rt: &HostRuntime, plan: &Plan, field: &Equipment) -> io::Result<()> {
-    let count = plan.drawing().elements.as_slice().len();
-    for element in 0..96u8 {
-        if (element as usize) < count {
-            show_element(rt, field, element)?;
-        }
+fn show_field(rt: &HostRuntime, plan: &Plan, field: &Equipment) -> io::Result<()> {
+    for (element, _) in (0..96u8).zip(plan.drawing().elements.as_slice()) {
+        show_element(rt, field, element)?;
     }
     for section in 0..64u8 {
         show_section(rt, field, section)?;
@@ -53,7 +41,7 @@ pub fn show_field(rt: &HostRuntime, plan: &Plan, field: &Equipment) -> io::Resul
 }
 
 /// Prints the bytes of the contact picture.
-pub fn show_contacts(rt: &HostRuntime, field: &Equipment) -> io::Result<()> {
+fn show_contacts(rt: &HostRuntime, field: &Equipment) -> io::Result<()> {
     let Some(bytes) = field.contact_bytes() else {
         return println!(rt; "error: the field is a table");
     };
@@ -64,27 +52,16 @@ pub fn show_contacts(rt: &HostRuntime, field: &Equipment) -> io::Result<()> {
     println!(rt; "")
 }
 
-fn print_flanks(rt: &HostRuntime, requests: &[Request], branches: &[Branch]) -> io::Result<()> {
-    for request in requests {
-        let element = request.element;
-        let position = request.position.number();
-        println!(rt; "  request {element} {position}")?;
-    }
-    print_branches(rt, branches)
-}
-
-/// Prints a line for each open branch.
-pub fn print_branches(rt: &HostRuntime, branches: &[Branch]) -> io::Result<()> {
-    for branch in branches {
-        let from = branch.from;
-        let last = branch.last;
-        println!(rt; "  open {from} {last}")?;
+/// Prints each item on a line of its own.
+pub fn print_lines<T: fmt::Display>(rt: &HostRuntime, items: &[T]) -> io::Result<()> {
+    for item in items {
+        println!(rt; "  {item}")?;
     }
     Ok(())
 }
 
 /// Prints what a route requests at its flanks, and which branches stay open.
-pub fn show_flanks(rt: &HostRuntime, plan: &Plan, route: u8) -> anyhow::Result<()> {
+fn show_flanks(rt: &HostRuntime, plan: &Plan, route: u8) -> anyhow::Result<()> {
     let request = Request {
         element: 0,
         position: Position::Plus,
@@ -97,9 +74,22 @@ pub fn show_flanks(rt: &HostRuntime, plan: &Plan, route: u8) -> anyhow::Result<(
             println!(rt; "{request_count} requests, {branch_count} open branches")?;
             requests.truncate(request_count);
             branches.truncate(branch_count);
-            print_flanks(rt, requests.as_slice(), branches.as_slice())?;
+            print_lines(rt, requests.as_slice())?;
+            print_lines(rt, branches.as_slice())?;
         }
-        Err(refusal) => print_refusal(rt, refusal)?,
+        Err(refusal) => println!(rt; "{refusal}")?,
+    }
+    Ok(())
+}
+
+/// Prints what can be seen of a plan and a field.
+pub fn see(rt: &HostRuntime, plan: &Plan, field: &Equipment, look: Look) -> anyhow::Result<()> {
+    match look {
+        Look::Element(element) => show_element(rt, field, element)?,
+        Look::Section(section) => show_section(rt, field, section)?,
+        Look::Contacts => show_contacts(rt, field)?,
+        Look::Flanks(route) => show_flanks(rt, plan, route)?,
+        Look::All => show_field(rt, plan, field)?,
     }
     Ok(())
 }

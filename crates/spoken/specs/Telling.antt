@@ -1,0 +1,37 @@
+-- What a field means after it was told or ordered by the numbers of a command.
+use Rattle.std.specs.Prelude.{ℕ, Option, Some, None, cond, nat_lt, ◌==◌}
+use Rattle.layout.specs.Numbers.{position_number}
+use Rattle.layout.specs.declared.position.Position.{Position}
+use Rattle.layout.specs.declared.position.Position.TheVariants as position
+use Rattle.field.specs.Meaning.{Meaning, ordered, told_report, told_block, told_lamp, told_occupation}
+use Rattle.spoken.specs.declared.telling.News.{News}
+use Rattle.spoken.specs.declared.telling.News.TheVariants.{Report, Block, Lamp, Occupied}
+use Rattle.spoken.specs.declared.telling.Telling.{Telling}
+use Rattle.spoken.specs.declared.telling.Ordering.{Ordering}
+
+-- The position with a number: 0 and 1 are the positions, and no other number is one.
+abbrev pub position_with : ℕ → Option Position
+position_with v = cond (v == 0) (Some position.Plus) (cond (v == 1) (Some position.Minus) None)
+
+-- A report or a standing order in numbers: that of the position, or 2 for none.
+abbrev pub number_of_report : Option Position → ℕ
+number_of_report (Some p) = position_number p
+number_of_report None = 2
+
+-- A report of 0 to 2 is told, and a block, a lamp and an occupation of 0 or 1; any other value is not.
+abbrev pub after_news : Meaning → News → ℕ → ℕ → Meaning
+after_news m Report n v = cond (nat_lt v 3) (told_report m n (position_with v)) m
+after_news m Block n v = cond (nat_lt v 2) (told_block m n (v == 1)) m
+after_news m Lamp n v = cond (nat_lt v 2) (told_lamp m n (v == 1)) m
+after_news m Occupied n v = cond (nat_lt v 2) (told_occupation m n (v == 1)) m
+
+abbrev pub after_telling : Meaning → Telling → Meaning
+after_telling m t = after_news m t.news t.number t.value
+
+-- An order to a position is carried out, and one to anything else changes nothing.
+abbrev pub after_order : Meaning → ℕ → Option Position → Meaning
+after_order m e (Some p) = ordered m e p
+after_order m e None = m
+
+abbrev pub after_ordering : Meaning → Ordering → Meaning
+after_ordering m o = after_order m o.element (position_with o.position)

@@ -1,0 +1,11 @@
+//! What the consoles read and print.
+#![tactic(auto)]
+
+pub mod asked;
+pub mod hex;
+pub mod looking;
+pub mod mistake;
+pub mod preparing;
+pub mod telling;
+pub mod understanding;
+pub mod words;

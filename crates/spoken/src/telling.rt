@@ -1,0 +1,130 @@
+//! What a field is told, and how it is ordered, in the numbers of a command.
+
+ghost use Rattle.std.specs.Prelude.{◌≡◌};
+ghost use Rattle.spoken.specs.Telling.{number_of_report, position_with, after_telling, after_ordering};
+
+use crate::mistake::Mistake;
+use field::field::Field;
+use layout::position::Position;
+use std::fmt;
+use std::str::FromStr;
+
+/// What a field is told of.
+#[derive(Clone, Copy)]
+pub enum News {
+    Report,
+    Block,
+    Lamp,
+    Occupied,
+}
+
+/// What a field is told of an element or a section.
+#[derive(Clone, Copy)]
+pub struct Telling {
+    pub news: News,
+    pub number: u8,
+    pub value: u8,
+}
+
+/// The number of a position that an element is ordered to.
+#[derive(Clone, Copy)]
+pub struct Ordering {
+    pub element: u8,
+    pub position: u8,
+}
+
+/// The position with a number, if there is one.
+pub fn position_of(number: u8) -> Option<Position>
+    ensures { result ≡ position_with number }
+{
+    match number {
+        0 => Some(Position::Plus),
+        1 => Some(Position::Minus),
+        _ => None,
+    }
+}
+
+/// A report or a standing order in numbers: 2 for none.
+pub fn number_of(position: Option<Position>) -> u8
+    ensures { result ≡ number_of_report position }
+{
+    position.map_or(2, |position| position.number())
+}
+
+impl Telling {
+    /// Tells a field; a value that means nothing is not told.
+    pub fn tell<F: Field>(self, field: &mut F)
+        ensures { F.meaning field.new ≡ after_telling (F.meaning field.old) self }
+    {
+        let Telling {
+            news,
+            number,
+            value,
+        } = self;
+        match news {
+            News::Report if value <= 2 => field.tell_report(number, position_of(value)),
+            News::Block if value <= 1 => field.tell_block(number, value == 1),
+            News::Lamp if value <= 1 => field.tell_lamp(number, value == 1),
+            News::Occupied if value <= 1 => field.tell_occupation(number, value == 1),
+            _ => {}
+        }
+    }
+}
+
+impl Ordering {
+    /// Orders an element; a position that there is not is not sent.
+    pub fn send<F: Field>(self, field: &mut F)
+        ensures { F.meaning field.new ≡ after_ordering (F.meaning field.old) self }
+    {
+        if let Some(position) = position_of(self.position) {
+            field.order(self.element, position);
+        }
+    }
+}
+
+impl FromStr for News {
+    type Err = Mistake;
+
+    fn from_str(word: &str) -> Result<News, Mistake> {
+        match word {
+            "report" => Ok(News::Report),
+            "block" => Ok(News::Block),
+            "lamp" => Ok(News::Lamp),
+            "occupied" => Ok(News::Occupied),
+            _ => Err(Mistake::NoNews),
+        }
+    }
+}
+
+impl fmt::Display for News {
+    fn fmt<W: fmt::Write>(&self, f: &mut fmt::Formatter<W>) -> fmt::Result {
+        f.write_str(match self {
+            News::Report => "report",
+            News::Block => "block",
+            News::Lamp => "lamp",
+            News::Occupied => "occupied",
+        })
+    }
+}
+
+impl fmt::Display for Telling {
+    fn fmt<W: fmt::Write>(&self, f: &mut fmt::Formatter<W>) -> fmt::Result {
+        let Telling {
+            news,
+            number,
+            value,
+        } = self;
+        write!(f, "tell {news} {number} {value}")
+    }
+}
+
+impl fmt::Display for Ordering {
+    ghost use Rattle.std.specs.Prelude.{Some, codes, decimal, ◌++◌};
+
+    ghost output = { λ order. Some (codes "order " ++ (decimal order.element ++ (codes " " ++ decimal order.position))) };
+
+    fn fmt<W: fmt::Write>(&self, f: &mut fmt::Formatter<W>) -> fmt::Result {
+        let Ordering { element, position } = self;
+        write!(f, "order {element} {position}")
+    }
+}
