@@ -3,10 +3,11 @@
 ghost use Rattle.std.specs.Prelude.{◌≡◌};
 ghost use Rattle.faults.specs.Numbers.{number_of, layer_of};
 
+use std::error::Error;
 use std::fmt;
 
 /// Why a plan is rejected.
-#[derive(Clone, Copy)]
+#[derive(Clone, Copy, Debug, PartialEq, Eq)]
 pub enum Cause {
     /// A byte is needed and there is none.
     Ended = 1,
@@ -29,7 +30,7 @@ pub enum Cause {
 }
 
 /// Why a plan is rejected, and where: a byte offset, an element or a route, by the layer.
-#[derive(Clone, Copy)]
+#[derive(Clone, Copy, Debug, PartialEq, Eq)]
 pub struct Fault {
     pub cause: Cause,
     pub place: usize,
@@ -67,3 +68,5 @@ impl fmt::Display for Fault {
         write!(f, "fault {number}, layer {layer}, place {place}")
     }
 }
+
+impl Error for Fault {}

@@ -3,10 +3,11 @@
 ghost use Rattle.std.specs.Prelude.{◌≡◌};
 ghost use Rattle.refusals.specs.Numbers.{number_of};
 
+use std::error::Error;
 use std::fmt;
 
 /// Why a call is refused.
-#[derive(Clone, Copy)]
+#[derive(Clone, Copy, Debug, PartialEq, Eq)]
 pub enum Refusal {
     /// The plan has no route with this number.
     NoSuchRoute = 10,
@@ -51,3 +52,5 @@ impl fmt::Display for Refusal {
         write!(f, "refused {number}, {words}")
     }
 }
+
+impl Error for Refusal {}

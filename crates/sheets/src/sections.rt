@@ -4,6 +4,7 @@ ghost use Rattle.std.specs.Prelude.{◌≡◌};
 ghost use Rattle.sheets.specs.Sections.{lies_in, is_on_way, section_use, sections_of, is_known, known_of};
 
 use crate::sheet::SectionUse;
+use flank::used::inner;
 use layout::element::Element;
 use layout::ports::element_at;
 use layout::route::Route;
@@ -27,14 +28,8 @@ fn is_on_way(elements: &[Element], way: &[u8], section: u8) -> bool
 fn section_use(elements: &[Element], route: &Route, section: u8) -> SectionUse
     ensures { result ≡ section_use elements.now route.now section }
 {
-    let path = route.path_elements();
-    let inner = if path.len() > 1 {
-        &path[1..path.len() - 1]
-    } else {
-        &[]
-    };
     SectionUse {
-        path: is_on_way(elements, inner, section),
+        path: is_on_way(elements, inner(route.path_elements()), section),
         overlap: is_on_way(elements, route.overlap_elements(), section),
     }
 }
