@@ -15,11 +15,7 @@ use sheets::sheet::Sheets;
 fn report_with(value: u8) -> Option<Position>
     ensures { result ≡ report_with value }
 {
-    match value {
-        0 => Some(Position::Plus),
-        1 => Some(Position::Minus),
-        _ => None,
-    }
+    Position::try_from(value).ok()
 }
 
 /// Whether the number is of the plan and of the right kind, and the value is in its range.

@@ -13,14 +13,16 @@ use field::device::{Device, unknown_device};
 use field::field::Field;
 use layout::position::Position;
 
-impl ContactPicture {
-    /// The picture with these bytes.
-    pub fn of(bytes: [u8; 104]) -> ContactPicture
-        ensures { result.bytes ≡ bytes }
-    {
+/// The picture with these bytes.
+impl From<[u8; 104]> for ContactPicture {
+    ghost from_gives = { λ bytes picture. picture.bytes ≡ bytes };
+
+    fn from(bytes: [u8; 104]) -> ContactPicture {
         ContactPicture { bytes }
     }
+}
 
+impl ContactPicture {
     /// The bytes of the picture.
     pub fn bytes(&self) -> &[u8]
         ensures { result.now ≡ self.now.bytes }

@@ -1,5 +1,5 @@
 -- The numbers of kinds, preferences, sorts, marks and classes in a plan file, and of positions.
-use Rattle.std.specs.Prelude.{ℕ, ◌/◌, ◌%◌, cond, ◌==◌}
+use Rattle.std.specs.Prelude.{ℕ, ◌/◌, ◌%◌, cond, ◌==◌, Some, None, Option}
 use Rattle.layout.specs.declared.kind.Kind.{Kind}
 use Rattle.layout.specs.declared.kind.Kind.TheVariants as kind
 use Rattle.layout.specs.declared.kind.Dual.{Dual}
@@ -15,6 +15,10 @@ use Rattle.layout.specs.declared.route.RouteClass.TheVariants as class
 abbrev pub position_number : Position → ℕ
 position_number position.Plus = 0
 position_number position.Minus = 1
+
+-- The position with a number; any other number is none's.
+abbrev pub position_with : ℕ → Option Position
+position_with n = cond (n == position_number position.Plus) (Some position.Plus) (cond (n == position_number position.Minus) (Some position.Minus) None)
 
 abbrev pub kind_number : Kind → ℕ
 kind_number kind.Track = 0

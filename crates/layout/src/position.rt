@@ -1,7 +1,11 @@
 //! The two positions of everything that a route can hold.
 
 ghost use Rattle.std.specs.Prelude.{◌≡◌};
-ghost use Rattle.layout.specs.Numbers.{position_number};
+ghost use Rattle.std.specs.Result.{result_ok};
+ghost use Rattle.layout.specs.Numbers.{position_number, position_with};
+
+use std::error::Error;
+use std::fmt;
 
 /// Plus for a point, on for a derailer, kept at stop for a signal; or minus, off, in use as a start.
 #[derive(Clone, Copy, PartialEq, Eq)]
@@ -18,3 +22,29 @@ impl Position {
         self as u8
     }
 }
+
+/// A number that no position has.
+#[derive(Clone, Copy, Debug, PartialEq, Eq)]
+pub struct NoPosition(pub u8);
+
+impl TryFrom<u8> for Position {
+    type Error = NoPosition;
+
+    ghost try_from_gives = { λ number answer. result_ok answer ≡ position_with number };
+
+    fn try_from(number: u8) -> Result<Position, NoPosition> {
+        match number {
+            0 => Ok(Position::Plus),
+            1 => Ok(Position::Minus),
+            _ => Err(NoPosition(number)),
+        }
+    }
+}
+
+impl fmt::Display for NoPosition {
+    fn fmt<W: fmt::Write>(&self, f: &mut fmt::Formatter<W>) -> fmt::Result {
+        write!(f, "no position has the number {}", self.0)
+    }
+}
+
+impl Error for NoPosition {}
