@@ -15,12 +15,6 @@ pub record Stands {A : Type 0} (t : List A) (s : Zip (Range ℕ) (Iter A)) : Typ
   pub within : (zip_first s).start ≤ length t
   pub rest : iter_rest (zip_second s) ≡ drop (zip_first s).start t
 
-pub begins : {A : Type 0} (t : List A) (s : Zip (Range ℕ) (Iter A)) → length t ≡ 96 → zip_first s ≡ record { start = 0; end = 96 }
-    → iter_rest (zip_second s) ≡ t → Stands t s × ((zip_first s).start ≡ 0)
-begins t s l i j =
-    let none : (zip_first s).start ≡ 0 = ap (λ (r : Range ℕ). r.start) i in
-    (record { end = ap (λ (r : Range ℕ). r.end) i ∙ sym l; within = omega arith; rest = rw none j }, none)
-
 -- one turn, at a number and its place, and the end
 module _ {A : Type 0} (t : List A) (s u : Zip (Range ℕ) (Iter A)) where
   pub turn : (d : A) (p : ℕ × Bor A) → zips nat_range_steps fronts s (Some p) u → Stands t s

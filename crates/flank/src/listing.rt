@@ -44,6 +44,7 @@ fn add_requests<T: Copy, F: Fn(Request) -> T>(
 }
 
 /// Writes what is made of the requests of a table into the first places of a list, as far as it has room, and gives their number.
+#[tactic(auto, using(crate::proofs::Lists::requests_none, crate::proofs::Filled::made_none))]
 pub(crate) fn list_requests<T: Copy, F: Fn(Request) -> T>(
     marked: &[Mark; 96],
     made: &F,
@@ -62,6 +63,7 @@ pub(crate) fn list_requests<T: Copy, F: Fn(Request) -> T>(
 
 impl Filling<'_, Branch> {
     /// Adds the open branches of a table of the flank of `from`.
+    #[tactic(auto, using(crate::proofs::Lists::branches_none, crate::proofs::Lists::branches_few))]
     pub(crate) fn add_open(&mut self, from: u8, marked: &[Mark; 96])
         requires { self.old.count < 100000 }
         ensures { Adds self.old (branches_in from marked.now 96) self.new }

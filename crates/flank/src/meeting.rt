@@ -59,11 +59,9 @@ impl Search<'_> {
         if self.is_used(beyond.element) {
             return Meeting::Ends;
         }
+        let dual = element_at(self.elements, met.element as usize).dual;
         let position = other_leg(met.port);
-        if may_shield(
-            element_at(self.elements, met.element as usize).dual,
-            position,
-        ) {
+        if may_shield(dual, position) {
             Meeting::Shields(position)
         } else {
             Meeting::AtLeg

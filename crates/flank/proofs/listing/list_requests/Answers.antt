@@ -2,15 +2,10 @@ use Rattle.std.proofs.Common.{length, ap, ◌∙◌, arith}
 use Rattle.std.specs.Iterator.Adapters.{zip_first}
 use Rattle.flank.specs.Search.{unmarked}
 use Rattle.flank.specs.Protection.{requests_in}
-use Rattle.flank.proofs.Rows.{begins, turn, turned}
-use Rattle.flank.proofs.Lists.{requests_none, requests_few}
-use Rattle.flank.proofs.Filled.{made_none, made_length, requests_made_more}
+use Rattle.flank.proofs.Rows.{turn, turned}
+use Rattle.flank.proofs.Lists.{requests_few}
+use Rattle.flank.proofs.Filled.{made_length, requests_made_more}
 use Rattle.flank.proofs.listing.list_requests.Goals as goal
-
-pub loop-element-init : goal.loop-element-init
-loop-element-init g c =
-    let at = begins _ _ c.told-marked c.zip-element-items.ensures.first c.zip-element-items.ensures.second.0 in
-    rw c.into_iter-element-iterator.ensures.into_iter_gives ((tt, tt), tt, at.0, rw (at.1, requests_none) (made_none _ _))
 
 pub add_requests-requires-clause-few : goal.add_requests-requires-clause-few
 add_requests-requires-clause-few g c =

@@ -1,26 +1,9 @@
-use Rattle.std.proofs.Common.{◌≡◌, true, false, get_or, ap, sym, ◌∙◌, arith}
-use Rattle.std.specs.Iterator.Adapters.{zip_first}
+use Rattle.std.proofs.Common.{◌≡◌, true, false, get_or, ap, sym, ◌∙◌}
 use Rattle.flank.specs.declared.answers.Mark.{Mark}
 use Rattle.flank.specs.Search.{unmarked}
-use Rattle.flank.proofs.Rows.{begins, turn}
-use Rattle.flank.proofs.Lists.{branches_none, branches_few}
-use Rattle.flank.proofs.Filled.{adds_none, open_more, shut_more}
+use Rattle.flank.proofs.Rows.{turn}
+use Rattle.flank.proofs.Filled.{open_more, shut_more}
 use Rattle.flank.proofs.listing.Filling+Branch.add_open.Goals as goal
-
-pub loop-last-init : goal.loop-last-init
-loop-last-init c =
-    let at = begins _ _ c.told-marked c.zip-last-items.ensures.first c.zip-last-items.ensures.second.0 in
-    rw c.into_iter-last-iterator.ensures.into_iter_gives ((tt, tt), tt, at.0, rw (at.1, branches_none) (adds_none _))
-
-pub add-requires : goal.add-requires
-add-requires c =
-    omega (
-      arith,
-      c.loop-last.invariant.3.count,
-      c.loop-last.invariant.2.within,
-      c.told-marked,
-      branches_few c.args.from c.args.marked.now (zip_first c.loop-last.last-iterator).start,
-    )
 
 pub loop-last-preserved-then-mark : goal.loop-last-preserved-then-mark
 loop-last-preserved-then-mark c =
