@@ -93,7 +93,7 @@ counts_listed es r list branches =
 abbrev pub list_filled : {A : Type 0} → Bool → List A → List A → List A
 list_filled room answers list = cond room (filled answers list) list
 
--- The same of a list of requests.
+-- Whether there is room, and the two numbers, where the answers are the requests themselves.
 abbrev pub fits : List Element → Route → List Request → List Branch → Bool
 fits es r requests branches = have_room es r requests branches
 
