@@ -1,9 +1,8 @@
 //! Holds by element and states by route. A number that names no element or route reads as nothing held, or absent.
 
 ghost use Rattle.std.specs.Prelude.{◌≡◌};
-ghost use Rattle.holds.specs.Interlockings.{idle, hold_of, state_of, with_state};
 ghost use Rattle.holds.specs.Holds.{held_in};
-ghost use Rattle.holds.specs.Interlockings.{held_by};
+ghost use Rattle.holds.specs.Interlockings.{idle, hold_of, held_by, state_of, with_state};
 
 use crate::hold::Hold;
 use crate::state::RouteState;

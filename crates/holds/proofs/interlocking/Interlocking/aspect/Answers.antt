@@ -1,6 +1,6 @@
 use Rattle.std.proofs.Common.{rules}
 use Rattle.holds.specs.Aspects.{aspect_upto}
-use Rattle.holds.proofs.Turns.{aspect_upto_more}
+use Rattle.holds.proofs.AspectTurn.{aspect_upto_more}
 use Rattle.holds.proofs.interlocking.Interlocking.aspect.Goals as goal
 
 pub loop-route-init : goal.loop-route-init

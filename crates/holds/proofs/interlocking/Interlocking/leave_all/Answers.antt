@@ -1,6 +1,6 @@
 use Rattle.std.proofs.Common.{set, ap, ◌∙◌, arith, rules}
 use Rattle.holds.specs.Granting.{taken_out}
-use Rattle.holds.proofs.Turns.{left_more, left_all}
+use Rattle.holds.proofs.Leaving.{left_more, left_all}
 use Rattle.holds.proofs.interlocking.Interlocking.leave_all.Goals as goal
 
 pub loop-hold-init : goal.loop-hold-init

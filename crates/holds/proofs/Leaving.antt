@@ -1,12 +1,9 @@
--- The start and a turn of loops over elements and routes.
-use Rattle.std.proofs.Common.{◌≡◌, ℕ, zero, suc, ◌+◌, cond, List, [], ◌∷◌, get_or, set, refl, sym, ap, add-one}
-use Rattle.sheets.specs.declared.sheet.Sheets.{Sheets}
-use Rattle.sheets.specs.Reading.{route_sheet}
+-- A route that leaves the holds of all elements, one after another, is taken out of each.
+use Rattle.std.proofs.Common.{◌≡◌, ℕ, zero, suc, ◌+◌, List, [], ◌∷◌, get_or, set, refl, sym, ap, add-one}
+use Rattle.holds.specs.declared.hold.Hold.{Hold}
 use Rattle.holds.specs.declared.interlocking.Interlocking.{Interlocking}
-use Rattle.holds.specs.Aspects.{clears, shown, aspect_upto}
 use Rattle.holds.specs.Granting.{taken_out}
 use Rattle.holds.specs.Holds.{free_hold, left_by}
-use Rattle.holds.specs.declared.hold.Hold.{Hold}
 
 -- a change of one item of a list, past its end too, does not depend on what is read past the end
 change_at : {X : Type 0} (change : X → X) (xs : List X) (n : ℕ) (d e : X) → set xs n (change (get_or xs n d)) ≡ set xs n (change (get_or xs n e))
@@ -28,8 +25,3 @@ module _ (i : Interlocking) (r : ℕ) where
   pub left_all : (n : ℕ) (holds : List Hold) → holds ≡ (taken_out i r n).holds → n ≡ 96
       → record { holds = holds; states = i.states } ≡ taken_out i r 96
   left_all n holds e all = rw (← all, e) (ap (λ s. record { holds = (taken_out i r n).holds; states = s }) (sym (taken_out_states n)))
-
-pub aspect_upto_more : (t : Sheets) (i : Interlocking) (e n : ℕ)
-    → aspect_upto t i e (n + 1) ≡ cond (clears t i e n) (shown (route_sheet t n).showing) (aspect_upto t i e n)
-unfolding aspect_upto
-aspect_upto_more t i e n = rw add-one
