@@ -1,7 +1,7 @@
 //! The words of a line, between blanks and tabs.
 
 ghost use Rattle.std.specs.Prelude.{◌≤◌, ◌≡◌, ◌+◌, length, IfSome};
-ghost use Rattle.std.specs.Str.Parse.{digits_value};
+ghost use Rattle.std.specs.Str.Parse.{digits_value, IsNumeral};
 
 const BLANKS: [char; 2] = [' ', '\t'];
 
@@ -18,7 +18,8 @@ pub fn first_word<'a>(text: &'a str) -> (&'a str, &'a str)
 
 /// The number that a word of digits spells.
 pub fn number(word: &str) -> Option<u8>
-    ensures { IfSome result (λ n. n ≡ digits_value 10 word.now) }
+    ensures digits { IfSome result (λ n. IsNumeral 10 word.now) }
+    ensures value { IfSome result (λ n. n ≡ digits_value 10 word.now) }
 {
     if word.starts_with('+') {
         return None;
@@ -27,7 +28,9 @@ pub fn number(word: &str) -> Option<u8>
 }
 
 /// The numbers that two words of digits spell.
-pub fn two_numbers(text: &str) -> Option<(u8, u8)> {
+pub fn two_numbers(text: &str) -> Option<(u8, u8)>
+    ensures { IfSome result (λ _. 2 ≤ length text.now) }
+{
     let (first, second) = first_word(text);
     Some((number(first)?, number(second)?))
 }

@@ -5,6 +5,7 @@ use crate::open_session::OpenSession;
 use equipment::equipment::Equipment;
 use field::field::Field;
 use plan::plan::Plan;
+use refusals::refusal::Refusal;
 use station::closed::ClosedStation;
 use station::journal::Entry;
 use station::open_station::OpenStation;
@@ -22,26 +23,27 @@ fn unanswered(heap: Global, journal: &[Entry]) -> Result<Vec<Entry>, AllocError>
         .collect(heap)
 }
 
-/// Whether a route is in the same state in two stations, or refused for the same reason.
-fn is_same_route(one: &OpenStation<Equipment>, other: &OpenStation<Equipment>, route: u8) -> bool {
-    match (one.state(route), other.state(route)) {
-        (Ok(one), Ok(other)) => one.number() == other.number(),
-        (Err(one), Err(other)) => one.number() == other.number(),
-        _ => false,
-    }
+/// Whether two answers in numbers are the same, or refused for the same reason.
+fn is_same_answer(one: Result<u8, Refusal>, other: Result<u8, Refusal>) -> bool {
+    one.map_err(|refusal| refusal.number()) == other.map_err(|refusal| refusal.number())
 }
 
-/// Whether a signal shows the same in two stations, or is refused for the same reason.
+fn is_same_route(one: &OpenStation<Equipment>, other: &OpenStation<Equipment>, route: u8) -> bool {
+    is_same_answer(
+        one.state(route).map(|state| state.number()),
+        other.state(route).map(|state| state.number()),
+    )
+}
+
 fn is_same_signal(
     one: &OpenStation<Equipment>,
     other: &OpenStation<Equipment>,
     signal: u8,
 ) -> bool {
-    match (one.aspect(signal), other.aspect(signal)) {
-        (Ok(one), Ok(other)) => one.number() == other.number(),
-        (Err(one), Err(other)) => one.number() == other.number(),
-        _ => false,
-    }
+    is_same_answer(
+        one.aspect(signal).map(|aspect| aspect.number()),
+        other.aspect(signal).map(|aspect| aspect.number()),
+    )
 }
 
 /// Whether two fields answer the same of an element.
