@@ -15,7 +15,7 @@ use Rattle.readiness.specs.declared.settling.Settling.TheVariants.{Dropping, Rai
 use Rattle.readiness.specs.Readiness.{ready}
 use Rattle.readiness.specs.Settling.{drop_pass, all_keep, drops_until, raise_pass, all_rest, raises_until}
 use Rattle.readiness.specs.DropsAndRaises.{settle_one, stays, pass, all_stay, passes_until}
-use Rattle.readiness.proofs.Alls.{numbered_all}
+use Rattle.layout.proofs.EveryList.{all_places}
 
 pub pass_none : (w : Settling) (t : Sheets) (m : Meaning) (i : Interlocking) → pass w t m i 0 ≡ i
 unfolding drop_pass raise_pass
@@ -46,8 +46,8 @@ pub all_stay_numbered :
     (w : Settling) (t : Sheets) (m : Meaning) (i : Interlocking)
     → list_all (λ (p : ℕ × RouteSheet). stays w t m i p.1 p.0) (enumerate_from 0 (listed t.routes)) ≡ all_stay w t m i
 all_stay_numbered w t m i =
-    numbered_all (λ (p : ℕ × RouteSheet). stays w t m i p.1 p.0) (λ r. stays w t m i (route_sheet t r) r) 0 (listed t.routes) past_the_end
-    (λ j l. let e : 0 + j ≡ j = omega arith in rw e)
+    all_places (λ (p : ℕ × RouteSheet). stays w t m i p.1 p.0) (λ r. stays w t m i (route_sheet t r) r) (listed t.routes) past_the_end
+    (λ j l. refl)
     ∙ sym (all_stay_is w t m i)
 
 until_zero : (w : Settling) (t : Sheets) (m : Meaning) (i : Interlocking) → passes_until w t m i 0 ≡ i

@@ -1,3 +1,4 @@
+pub mod AllNumbers
 mod AnyPlace
 mod Filling
 mod NumbersTurn

@@ -2,7 +2,7 @@ use Rattle.std.proofs.Common.{◌∙◌, rules, tests}
 use Rattle.std.proofs.lemmas.Iterator.{YieldsList-from_slice}
 use Rattle.std.proofs.lemmas.Iterator.Search.{all_from_yields_List}
 use Rattle.holds.specs.Refusing.{clear_of}
-use Rattle.holds.proofs.Tests.{all_numbers}
+use Rattle.sheets.proofs.AllNumbers.{all_numbers}
 use Rattle.holds.proofs.refusing.are_apart.Goals as goal
 
 pub returns : goal.returns

@@ -2,8 +2,8 @@ use Rattle.std.proofs.Common.{ℕ, ◌&&◌, length, sym, ◌∙◌, rules, test
 use Rattle.std.proofs.lemmas.Iterator.{YieldsList-from_slice}
 use Rattle.std.proofs.lemmas.Iterator.Consumers.{YieldsList-from_enumerate}
 use Rattle.std.proofs.lemmas.Iterator.Search.{all_from_yields_List}
-use Rattle.layout.proofs.EveryList.{every_numbered}
-use Rattle.paths.specs.Places.{lacks, are_new}
+use Rattle.layout.proofs.EveryList.{all_places}
+use Rattle.paths.specs.Places.{lacks, is_new, are_new}
 use Rattle.paths.proofs.places.all_new.Goals as goal
 
 pub returns : goal.returns
@@ -13,4 +13,4 @@ returns c =
     let way = c.args.way.now in
     let is_new_here = λ (p : ℕ × ℕ). lacks before (length before) p.1 && lacks way p.0 p.1 in
     all_from_yields_List is_new_here _ _ _ c.all.ensures.ran (YieldsList-from_enumerate (YieldsList-from_slice way (cc)) (cc)) (λ x b q k. search (rules, tests))
-    ∙ sym (every_numbered is_new_here way 0 (length way) 0 (omega arith))
+    ∙ all_places is_new_here (is_new before way) way 0 (λ k h. refl)

@@ -7,7 +7,7 @@ use Rattle.sheets.specs.Reading.{past_the_end}
 use Rattle.holds.specs.States.{stands}
 use Rattle.holds.specs.Interlockings.{state_of}
 use Rattle.holds.specs.Refusing.{apart, admits, all_admit}
-use Rattle.holds.proofs.Tests.{all_places}
+use Rattle.layout.proofs.EveryList.{all_places}
 use Rattle.holds.proofs.interlocking.Interlocking.all_admit.Goals as goal
 
 pub returns : goal.returns

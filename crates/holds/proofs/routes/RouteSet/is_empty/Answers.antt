@@ -1,5 +1,5 @@
 use Rattle.std.proofs.Common.{refl}
-use Rattle.holds.proofs.Tests.{none_holds}
+use Rattle.holds.proofs.SetTests.{none_holds}
 use Rattle.holds.proofs.routes.RouteSet.is_empty.Goals as goal
 
 pub returns : goal.returns
