@@ -6,7 +6,7 @@ use Rattle.sheets.specs.Sections.{is_known, known_of}
 use Rattle.sheets.specs.Sheets.{element_sheet, no_element_sheet, element_sheets}
 use Rattle.sheetlaws.specs.Routes.{elements_of}
 use Rattle.sheetlaws.specs.Elements.{ElementsExact, KnownExact}
-use Rattle.sheetlaws.proofs.Reading.{by_rule_at}
+use Rattle.sheets.proofs.RuleTables.{by_rule_at}
 use Rattle.sheetlaws.proofs.Places.{known_sound, known_from}
 
 element_at : (es : List Element) (e : ℕ) → e < 96 → get_or (element_sheets es) e no_element_sheet ≡ element_sheet es e

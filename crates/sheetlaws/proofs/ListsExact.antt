@@ -16,7 +16,8 @@ use Rattle.sheets.specs.Wants.{want_at, no_want, wants_of}
 use Rattle.plan.specs.Flanks.{route_of}
 use Rattle.sheetlaws.specs.Routes.{Exactly, elements_of}
 use Rattle.sheetlaws.specs.Lists.{WantedExact, UsedExact}
-use Rattle.sheetlaws.proofs.Reading.{by_rule_length, pushed_count, pushed_size, pushed_listed, sheets_in_order}
+use Rattle.sheets.proofs.RuleTables.{by_rule_length}
+use Rattle.sheetlaws.proofs.Reading.{pushed_count, pushed_size, pushed_listed, sheets_in_order}
 
 -- what stands in a list with one item more at its end
 in_more : (a x : ℕ) (xs : List ℕ) → In a (xs ++ (x ∷ [])) → In a xs ⊎ (x ≡ a)

@@ -1,4 +1,4 @@
--- A table filled by a rule has at each place what the rule says, and the sheets of routes stand in the order of the routes.
+-- The sheets of routes stand in the order of the routes.
 use Rattle.std.proofs.Common.{◌≡◌, ℕ, zero, suc, ◌+◌, ◌<◌, ◌≤◌, min, List, [], ◌∷◌, ◌++◌, map, length, get_or, set, sym, ap, ◌∙◌, inl, inr, append_assoc, append-nil, arith, length-set, take-suc-set}
 use lib.ListN.{length-replicate, length-map}
 use Rattle.std.proofs.lemmas.List.{get_or-set_same, get_or-set_other, get_or-map}
@@ -12,21 +12,6 @@ use Rattle.sheets.specs.declared.sheet.RouteSheet.{RouteSheet}
 use Rattle.sheets.specs.Tables.{by_rule}
 use Rattle.sheets.specs.Sheets.{sheet_of, no_sheet, with_sheets, route_sheets}
 use Rattle.sheetlaws.specs.Routes.{SheetsInOrder}
-
-module _ {X : Type 0} (size : ℕ) (blank : X) (rule : ℕ → X) where
-  pub by_rule_length : (n : ℕ) → length (by_rule size blank rule n) ≡ size
-  unfolding by_rule blanks
-  by_rule_length zero = length-replicate size blank
-  by_rule_length (suc n) = length-set (by_rule size blank rule n) n (rule n) ∙ by_rule_length n
-
-  pub by_rule_at : (n k : ℕ) (past : X) → k < n → n ≤ size → get_or (by_rule size blank rule n) k past ≡ rule k
-  unfolding by_rule
-  by_rule_at zero k past h l = absurd (omega arith)
-  by_rule_at (suc n) k past h l =
-      elim (cases_eq k n) [
-        | inl e ↦ rw e (get_or-set_same (by_rule size blank rule n) n (rule n) past (omega (arith, by_rule_length n)))
-        | inr e ↦ get_or-set_other (by_rule size blank rule n) n k (rule n) past e ∙ by_rule_at n k past (omega arith) (omega arith)
-      ]
 
 -- one item more in a bounded list that is not full
 module _ {X : Type 0} {N : ℕ} (b : Bounded X N) (x : X) (room : b.count < N) where

@@ -20,7 +20,8 @@ use Rattle.plan.specs.Flanks.{route_of}
 use Rattle.plan.specs.Sound.{SoundPlan}
 use Rattle.sheetlaws.specs.Routes.{HasRoute, elements_of}
 use Rattle.sheetlaws.specs.Requests.{want_of, SheetRequestsExact}
-use Rattle.sheetlaws.proofs.Reading.{by_rule_at, sheets_in_order}
+use Rattle.sheets.proofs.RuleTables.{by_rule_at}
+use Rattle.sheetlaws.proofs.Reading.{sheets_in_order}
 
 want_in : (es : List Element) (r : Route) (e : ℕ) → e < 96 → get_or (sheet_of es r).wants e no_want ≡ want_at es r e
 unfolding sheet_of wants_of

@@ -19,7 +19,8 @@ use Rattle.sheets.specs.Sheets.{no_sheet, sheet_of}
 use Rattle.plan.specs.Flanks.{route_of}
 use Rattle.sheetlaws.specs.Routes.{elements_of}
 use Rattle.sheetlaws.specs.Sections.{use_of, SectionsExact, SectionsInRange}
-use Rattle.sheetlaws.proofs.Reading.{by_rule_at, sheets_in_order}
+use Rattle.sheets.proofs.RuleTables.{by_rule_at}
+use Rattle.sheetlaws.proofs.Reading.{sheets_in_order}
 use Rattle.sheetlaws.proofs.Places.{on_way_sound, on_way_from}
 
 -- an element of the plan that has a section is a track, a point or a derailer

@@ -6,20 +6,7 @@ use Rattle.std.proofs.lemmas.Bool.{cases_eq}
 use Rattle.std.proofs.lemmas.List.{ext_get_or, length-set, length-replicate, get_or-set_same, get_or-set_other}
 use Rattle.bounded.specs.Lists.{blanks}
 use Rattle.sheets.specs.Tables.{by_rule}
-
-by_rule_length : {X : Type 0} (size : ℕ) (blank : X) (rule : ℕ → X) (n : ℕ) → length (by_rule size blank rule n) ≡ size
-unfolding by_rule blanks
-by_rule_length size blank rule zero = length-replicate size blank
-by_rule_length size blank rule (suc n) = length-set (by_rule size blank rule n) n (rule n) ∙ by_rule_length size blank rule n
-
-by_rule_at : {X : Type 0} (size : ℕ) (blank : X) (rule : ℕ → X) (n k : ℕ) → k < n → n ≤ size → get_or (by_rule size blank rule n) k blank ≡ rule k
-unfolding by_rule
-by_rule_at size blank rule zero k h l = absurd (omega arith)
-by_rule_at size blank rule (suc n) k h l =
-    elim (cases_eq k n) [
-      | inl e ↦ rw e (get_or-set_same (by_rule size blank rule n) n (rule n) blank (omega (arith, by_rule_length size blank rule n)))
-      | inr e ↦ get_or-set_other (by_rule size blank rule n) n k (rule n) blank e ∙ by_rule_at size blank rule n k (omega arith) (omega arith)
-    ]
+use Rattle.sheets.proofs.RuleTables.{by_rule_length, by_rule_at}
 
 module _ {F X : Type 0} (g : Mut F (ℕ × Unit {0}) X) (f : F) (rule : ℕ → X) (size : ℕ) where
   -- each call answers as the rule does, and leaves the closure as it is
@@ -39,4 +26,4 @@ module _ {F X : Type 0} (g : Mut F (ℕ × Unit {0}) X) (f : F) (rule : ℕ → 
   filled blank xs made follows =
       ext_get_or blank xs (by_rule size blank rule size) (made.long ∙ sym (by_rule_length size blank rule size))
       (λ k h. filled_at follows xs blank size 0 made.each (omega arith) k (omega arith) (omega (arith, made.long))
-      ∙ sym (by_rule_at size blank rule size k (omega (arith, made.long)) (omega arith)))
+      ∙ sym (by_rule_at size blank rule size k blank (omega (arith, made.long)) (omega arith)))

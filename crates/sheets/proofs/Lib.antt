@@ -2,3 +2,4 @@ pub mod AllNumbers
 mod AnyPlace
 mod Filling
 mod NumbersTurn
+pub mod RuleTables
