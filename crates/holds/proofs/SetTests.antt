@@ -1,9 +1,6 @@
 -- What the test of a set says is what `contains` answers.
-use Rattle.std.proofs.Common.{◌≡◌, ℕ, suc, ◌+◌, ◌<◌, Bool, true, false, not, ◌&&◌, List, [], ◌∷◌, length, get_or, refl, subst, arith}
-use Rattle.std.specs.List.{list_all, list_any, enumerate_from}
-use Rattle.std.proofs.lemmas.List.Recursion.{same_from_clauses}
-use Rattle.layout.specs.Every.{every}
-use Rattle.sheets.specs.Lists.{all_of}
+use Rattle.std.proofs.Common.{◌≡◌, Bool, true, false, not, List, [], ◌∷◌, refl}
+use Rattle.std.specs.List.{list_any}
 use Rattle.holds.specs.RouteSets.{none_true}
 
 pub none_holds : (test : Bool → Bool) → test true ≡ true → test false ≡ false → (xs : List Bool) → not (list_any test xs) ≡ none_true xs

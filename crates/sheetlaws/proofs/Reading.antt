@@ -1,15 +1,14 @@
 -- The sheets of routes stand in the order of the routes.
-use Rattle.std.proofs.Common.{◌≡◌, ℕ, zero, suc, ◌+◌, ◌<◌, ◌≤◌, min, List, [], ◌∷◌, ◌++◌, map, length, get_or, set, sym, ap, ◌∙◌, inl, inr, append_assoc, append-nil, arith, length-set, take-suc-set}
+use Rattle.std.proofs.Common.{◌≡◌, ℕ, suc, ◌+◌, ◌<◌, ◌≤◌, min, List, [], ◌∷◌, ◌++◌, map, length, get_or, set, sym, ap, ◌∙◌, append_assoc, append-nil, arith, length-set, take-suc-set}
 use lib.ListN.{length-replicate, length-map}
-use Rattle.std.proofs.lemmas.List.{get_or-set_same, get_or-set_other, get_or-map}
-use Rattle.std.proofs.lemmas.Bool.{cases_eq, cond-true, lt-ltb}
+use Rattle.std.proofs.lemmas.List.{get_or-map}
+use Rattle.std.proofs.lemmas.Bool.{cond-true, lt-ltb}
 use Rattle.bounded.specs.declared.bounded.Bounded.{Bounded}
 use Rattle.bounded.specs.Lists.{listed, blanks, empty_of, pushed}
 use Rattle.layout.specs.declared.element.Element.{Element}
 use Rattle.layout.specs.declared.route.Route.{Route}
 use Rattle.layout.specs.Drawings.{no_route}
 use Rattle.sheets.specs.declared.sheet.RouteSheet.{RouteSheet}
-use Rattle.sheets.specs.Tables.{by_rule}
 use Rattle.sheets.specs.Sheets.{sheet_of, no_sheet, with_sheets, route_sheets}
 use Rattle.sheetlaws.specs.Routes.{SheetsInOrder}
 

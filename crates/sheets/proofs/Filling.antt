@@ -1,10 +1,9 @@
 -- A table that the calls of a closure fill is the table that a rule fills, where each call answers as the rule does.
-use Rattle.std.proofs.Common.{◌≡◌, ℕ, zero, suc, ◌+◌, ◌<◌, ◌≤◌, List, length, get_or, sym, ◌∙◌, subst, inl, inr, arith}
+use Rattle.std.proofs.Common.{◌≡◌, ℕ, zero, suc, ◌+◌, ◌<◌, ◌≤◌, List, get_or, sym, ◌∙◌, subst, inl, inr, arith}
 use Rattle.std.specs.Array.{IsFromFnResult, IsFromFnResultFrom}
 use Rattle.std.specs.Fn.{Mut, Called}
 use Rattle.std.proofs.lemmas.Bool.{cases_eq}
-use Rattle.std.proofs.lemmas.List.{ext_get_or, length-set, length-replicate, get_or-set_same, get_or-set_other}
-use Rattle.bounded.specs.Lists.{blanks}
+use Rattle.std.proofs.lemmas.List.{ext_get_or}
 use Rattle.sheets.specs.Tables.{by_rule}
 use Rattle.sheets.proofs.RuleTables.{by_rule_length, by_rule_at}
 
