@@ -3,20 +3,13 @@
 ghost use Rattle.std.specs.Prelude.{◌≡◌};
 ghost use Rattle.refusals.specs.Numbers.{refusal_in};
 ghost use Rattle.acts.specs.Answers.{is_event, event_refusal};
-ghost use Rattle.acts.specs.Acts.{report_with, told};
+ghost use Rattle.acts.specs.Acts.{told};
 
 use crate::act::Event;
 use field::field::Field;
 use layout::position::Position;
 use refusals::refusal::Refusal;
 use sheets::sheet::Sheets;
-
-/// The report with a number.
-fn report_with(value: u8) -> Option<Position>
-    ensures { result ≡ report_with value }
-{
-    Position::try_from(value).ok()
-}
 
 /// Whether the number is of the plan and of the right kind, and the value is in its range.
 fn is_event(sheets: &Sheets, event: Event) -> bool
@@ -46,7 +39,10 @@ pub(crate) fn tell<F: Field>(field: &mut F, event: Event)
     ensures { F.meaning field.new ≡ told (F.meaning field.old) event }
 {
     match event {
-        Event::Report { element, value } => field.tell_report(element, report_with(value)),
+        Event::Report { element, value } => field.tell_report(
+            element,
+            Position::try_from(value).ok(),
+        ),
         Event::Block { element, value } => field.tell_block(element, value == 1),
         Event::Lamp { signal, value } => field.tell_lamp(signal, value == 1),
         Event::Occupation { section, value } => field.tell_occupation(section, value == 1),

@@ -27,7 +27,7 @@ impl Equipment {
         ensures form { has_contacts result ≡ true }
         ensures bytes { picture_bytes result ≡ Some bytes }
     {
-        Equipment::Contacts(ContactPicture::of(bytes))
+        Equipment::Contacts(ContactPicture::from(bytes))
     }
 
     /// A second field with the same form and content.

@@ -1,16 +1,7 @@
--- A test of numbers in a row: the start, a turn and the end of a loop over it, and what it says of each number.
-use Rattle.std.proofs.Common.{◌≡◌, ℕ, zero, suc, ◌+◌, ◌-◌, ◌<◌, ◌≤◌, Bool, true, false, ◌&&◌, refl, ap, ◌∙◌, inl, inr, arith}
+-- What a test of numbers in a row says of each number.
+use Rattle.std.proofs.Common.{◌≡◌, ℕ, zero, suc, ◌+◌, ◌<◌, ◌≤◌, Bool, true, false, refl, ap, ◌∙◌, inl, inr, arith}
 use Rattle.std.proofs.lemmas.Bool.{and_parts, and_from, and_cases, cases_eq, true≢false}
 use Rattle.layout.specs.Every.{every}
-
-pub every_none : (test : ℕ → Bool) (n i : ℕ) → every test n i ≡ every test (n - 0) i
-every_none test n i = let e : n - 0 ≡ n = omega arith in rw e
-
-pub every_more : (test : ℕ → Bool) (n i : ℕ) → i < n → every test (n - i) i ≡ test i && every test (n - (i + 1)) (i + 1)
-every_more test n i h = let e : n - i ≡ suc (n - (i + 1)) = omega arith in rw e
-
-pub every_all : (test : ℕ → Bool) (n i : ℕ) → n ≤ i → every test (n - i) i ≡ true
-every_all test n i h = let e : n - i ≡ 0 = omega arith in rw e
 
 -- every number passes
 pub every_each : (test : ℕ → Bool) (n i : ℕ) → every test n i ≡ true → (j : ℕ) → i ≤ j → j < i + n → test j ≡ true

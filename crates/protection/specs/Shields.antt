@@ -15,12 +15,6 @@ use Rattle.protection.specs.declared.shield.Shield.{Shield}
 abbrev pub shield_of : Interlocking → ℕ → Request → Shield
 shield_of i r q = record { element = q.element; position = q.position; held = held_in (hold_of i q.element) r q.position }
 
-abbrev pub shields_at : Interlocking → ℕ → ℕ → Mark → List Shield
-shields_at i r e m = map (shield_of i r) (requests_at e m)
-
-abbrev pub shields_in : Interlocking → ℕ → List Mark → ℕ → List Shield
-shields_in i r marks n = map (shield_of i r) (requests_in marks n)
-
 -- What a route requests, by element, each held or not.
 abbrev pub shields_of : List Element → Route → Interlocking → ℕ → List Shield
 shields_of es drawn i r = map (shield_of i r) (requests_of es drawn)

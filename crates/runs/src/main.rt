@@ -67,7 +67,7 @@ fn show(
 ) -> anyhow::Result<()> {
     let mut journal = journal_of(rt.alloc(), acts)?;
     let on_table = shown(bytes, TableField::fresh(), journal.as_mut_slice(), signal);
-    let picture = ContactPicture::of([0; 104]);
+    let picture = ContactPicture::from([0; 104]);
     let on_picture = shown(bytes, picture, journal.as_mut_slice(), signal);
     println!(rt;
         "{what}: signal {signal} shows {on_table} on a table, {on_picture} on a contact picture"

@@ -1,17 +1,12 @@
 -- What a field means after it was told or ordered by the numbers of a command.
 use Rattle.std.specs.Prelude.{ℕ, Option, Some, None, cond, nat_lt, ◌==◌}
-use Rattle.layout.specs.Numbers.{position_number}
+use Rattle.layout.specs.Numbers.{position_number, position_with}
 use Rattle.layout.specs.declared.position.Position.{Position}
-use Rattle.layout.specs.declared.position.Position.TheVariants as position
 use Rattle.field.specs.Meaning.{Meaning, ordered, told_report, told_block, told_lamp, told_occupation}
 use Rattle.spoken.specs.declared.telling.News.{News}
 use Rattle.spoken.specs.declared.telling.News.TheVariants.{Report, Block, Lamp, Occupied}
 use Rattle.spoken.specs.declared.telling.Telling.{Telling}
 use Rattle.spoken.specs.declared.telling.Ordering.{Ordering}
-
--- The position with a number: 0 and 1 are the positions, and no other number is one.
-abbrev pub position_with : ℕ → Option Position
-position_with v = cond (v == 0) (Some position.Plus) (cond (v == 1) (Some position.Minus) None)
 
 -- A report or a standing order in numbers: that of the position, or 2 for none.
 abbrev pub number_of_report : Option Position → ℕ

@@ -1,7 +1,7 @@
 //! What a field is told, and how it is ordered, in the numbers of a command.
 
 ghost use Rattle.std.specs.Prelude.{◌≡◌};
-ghost use Rattle.spoken.specs.Telling.{number_of_report, position_with, after_telling, after_ordering};
+ghost use Rattle.spoken.specs.Telling.{number_of_report, after_telling, after_ordering};
 
 use crate::mistake::Mistake;
 use field::field::Field;
@@ -33,17 +33,6 @@ pub struct Ordering {
     pub position: u8,
 }
 
-/// The position with a number, if there is one.
-pub fn position_of(number: u8) -> Option<Position>
-    ensures { result ≡ position_with number }
-{
-    match number {
-        0 => Some(Position::Plus),
-        1 => Some(Position::Minus),
-        _ => None,
-    }
-}
-
 /// A report or a standing order in numbers: 2 for none.
 pub fn number_of(position: Option<Position>) -> u8
     ensures { result ≡ number_of_report position }
@@ -62,7 +51,7 @@ impl Telling {
             value,
         } = self;
         match news {
-            News::Report if value <= 2 => field.tell_report(number, position_of(value)),
+            News::Report if value <= 2 => field.tell_report(number, Position::try_from(value).ok()),
             News::Block if value <= 1 => field.tell_block(number, value == 1),
             News::Lamp if value <= 1 => field.tell_lamp(number, value == 1),
             News::Occupied if value <= 1 => field.tell_occupation(number, value == 1),
@@ -76,7 +65,7 @@ impl Ordering {
     pub fn send<F: Field>(self, field: &mut F)
         ensures { F.meaning field.new ≡ after_ordering (F.meaning field.old) self }
     {
-        if let Some(position) = position_of(self.position) {
+        if let Ok(position) = Position::try_from(self.position) {
             field.order(self.element, position);
         }
     }

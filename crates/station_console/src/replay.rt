@@ -5,7 +5,6 @@ use crate::open_session::OpenSession;
 use equipment::equipment::Equipment;
 use field::field::Field;
 use plan::plan::Plan;
-use refusals::refusal::Refusal;
 use station::closed::ClosedStation;
 use station::journal::Entry;
 use station::open_station::OpenStation;
@@ -23,29 +22,6 @@ fn unanswered(heap: Global, journal: &[Entry]) -> Result<Vec<Entry>, AllocError>
         .collect(heap)
 }
 
-/// Whether two answers in numbers are the same, or refused for the same reason.
-fn is_same_answer(one: Result<u8, Refusal>, other: Result<u8, Refusal>) -> bool {
-    one.map_err(|refusal| refusal.number()) == other.map_err(|refusal| refusal.number())
-}
-
-fn is_same_route(one: &OpenStation<Equipment>, other: &OpenStation<Equipment>, route: u8) -> bool {
-    is_same_answer(
-        one.state(route).map(|state| state.number()),
-        other.state(route).map(|state| state.number()),
-    )
-}
-
-fn is_same_signal(
-    one: &OpenStation<Equipment>,
-    other: &OpenStation<Equipment>,
-    signal: u8,
-) -> bool {
-    is_same_answer(
-        one.aspect(signal).map(|aspect| aspect.number()),
-        other.aspect(signal).map(|aspect| aspect.number()),
-    )
-}
-
 /// Whether two fields answer the same of an element.
 fn is_same_element(one: &Equipment, other: &Equipment, element: u8) -> bool {
     one.report(element) == other.report(element)
@@ -57,8 +33,8 @@ fn is_same_element(one: &Equipment, other: &Equipment, element: u8) -> bool {
 /// Whether two stations answer the same: states, aspects, and what their fields answer.
 fn is_same(one: &OpenStation<Equipment>, other: &OpenStation<Equipment>) -> bool {
     let (field, other_field) = (one.field(), other.field());
-    (0..64u8).all(|route| is_same_route(one, other, route))
-        && (0..96u8).all(|signal| is_same_signal(one, other, signal))
+    (0..64u8).all(|route| one.state(route) == other.state(route))
+        && (0..96u8).all(|signal| one.aspect(signal) == other.aspect(signal))
         && (0..96u8).all(|element| is_same_element(field, other_field, element))
         && (0..64u8).all(|section| field.is_occupied(section) == other_field.is_occupied(section))
 }
