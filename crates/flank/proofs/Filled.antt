@@ -1,7 +1,7 @@
 -- Answers added to a list that is filled, some after others.
-use Rattle.std.proofs.Common.{◌≡◌, ℕ, ◌+◌, true, false, List, [], ◌∷◌, ◌++◌, length, get_or, sym, refl, ap, ◌∙◌, add-zero, arith, length-append}
-use Rattle.std.specs.List.{AllZip}
-use Rattle.std.proofs.lemmas.Slice.Zip.{AllZip-long}
+use Rattle.std.proofs.Common.{◌≡◌, ℕ, ◌+◌, true, false, List, [], ◌∷◌, ◌++◌, length, map, get_or, sym, refl, ap, ◌∙◌, add-zero, arith, length-append}
+use lib.ListN.{length-map}
+use Rattle.std.proofs.lemmas.List.{map-append}
 use Rattle.layout.specs.declared.element.Element.{Element}
 use Rattle.layout.specs.declared.route.Route.{Route}
 use Rattle.flank.specs.declared.answers.Branch.{Branch}
@@ -24,26 +24,15 @@ module _ {A : Type 0} where
     count = omega (arith, a.count, b.count, length-append xs ys);
   }
 
-made_append : {A : Type 0} (made : Request → A → Type 0) (ps qs : List Request) (xs ys : List A)
-    → AllZip made ps xs → AllZip made qs ys → AllZip made (ps ++ qs) (xs ++ ys)
-made_append made [] qs [] ys a b = b
-made_append made [] qs (x ∷ xs) ys a b = elim a [ ]
-made_append made (p ∷ ps) qs [] ys a b = elim a [ ]
-made_append made (p ∷ ps) qs (x ∷ xs) ys a b = (a.0, made_append made ps qs xs ys a.1 b)
+module _ {A : Type 0} (answer_to : Request → A) where
+  pub made_none : (f : Filling A) → AddsMade answer_to f [] f
+  made_none f = adds_none f
 
-module _ {A : Type 0} (made : Request → A → Type 0) where
-  pub made_none : (f : Filling A) → AddsMade made f [] f
-  made_none f = record { answers = []; each = tt; adds = adds_none f }
+  pub made_length : (f g : Filling A) (ps : List Request) → AddsMade answer_to f ps g → g.count ≡ f.count + length ps
+  made_length f g ps a = a.count ∙ ap (λ n. f.count + n) (length-map ps answer_to)
 
-  pub made_length : (f g : Filling A) (ps : List Request) → AddsMade made f ps g → g.count ≡ f.count + length ps
-  made_length f g ps a = omega (arith, a.adds.count, AllZip-long made ps a.answers a.each)
-
-  pub made_more : (f g h : Filling A) (ps qs : List Request) → AddsMade made f ps g → AddsMade made g qs h → AddsMade made f (ps ++ qs) h
-  made_more f g h ps qs a b = record {
-    answers = a.answers ++ b.answers;
-    each = made_append made ps qs a.answers b.answers a.each b.each;
-    adds = adds_more f g h a.answers b.answers a.adds b.adds;
-  }
+  pub made_more : (f g h : Filling A) (ps qs : List Request) → AddsMade answer_to f ps g → AddsMade answer_to g qs h → AddsMade answer_to f (ps ++ qs) h
+  made_more f g h ps qs a b = rw (map-append answer_to ps qs) (adds_more f g h (map answer_to ps) (map answer_to qs) a b)
 
 -- one place more of a table
 module _ (u : ℕ) (t : List Mark) (f g : Filling Branch) (k : ℕ) where
@@ -54,9 +43,9 @@ module _ (u : ℕ) (t : List Mark) (f g : Filling Branch) (k : ℕ) where
   pub shut_more : (get_or t k unmarked).open_end ≡ false → Adds f (branches_in u t k) g → Adds f (branches_in u t (k + 1)) g
   shut_more e a = rw (branches_shut u t k e) a
 
-module _ {A : Type 0} (made : Request → A → Type 0) (t : List Mark) (f g h : Filling A) (k : ℕ) where
-  pub requests_made_more : AddsMade made f (requests_in t k) g → AddsMade made g (requests_at k (get_or t k unmarked)) h → AddsMade made f (requests_in t (k + 1)) h
-  requests_made_more a b = rw (requests_more t k) (made_more made f g h (requests_in t k) (requests_at k (get_or t k unmarked)) a b)
+module _ {A : Type 0} (answer_to : Request → A) (t : List Mark) (f g h : Filling A) (k : ℕ) where
+  pub requests_made_more : AddsMade answer_to f (requests_in t k) g → AddsMade answer_to g (requests_at k (get_or t k unmarked)) h → AddsMade answer_to f (requests_in t (k + 1)) h
+  requests_made_more a b = rw (requests_more t k) (made_more answer_to f g h (requests_in t k) (requests_at k (get_or t k unmarked)) a b)
 
 -- the branches of one flank more
 pub below_added : (es : List Element) (r : Route) (t : List Mark) (f g h : Filling Branch) (k : ℕ) → t ≡ marks_of es r k

@@ -1,6 +1,5 @@
 -- Lists of a caller while they are filled.
-use Rattle.std.specs.Prelude.{◌≡◌, ◌+◌, List, length}
-use Rattle.std.specs.List.{AllZip}
+use Rattle.std.specs.Prelude.{◌≡◌, ◌+◌, List, length, map}
 use Rattle.flank.specs.declared.answers.Request.{Request}
 use Rattle.flank.specs.declared.filling.Filling.{Filling}
 use Rattle.flank.specs.Protection.{put_at}
@@ -11,8 +10,6 @@ pub record Adds {A : Type 0} (before : Filling A) (answers : List A) (after : Fi
   pub list : after.list.now ≡ put_at answers before.count before.list.now
   pub count : after.count ≡ before.count + length answers
 
--- The same list has more answers, made of some requests, one of each in order.
-pub record AddsMade {A : Type 0} (made : Request → A → Type 0) (before : Filling A) (requests : List Request) (after : Filling A) : Type 0 where
-  pub answers : List A
-  pub each : AllZip made requests answers
-  pub adds : Adds before answers after
+-- The same list has the answers to some requests more, one to each in order.
+abbrev pub AddsMade : {A : Type 0} → (Request → A) → Filling A → List Request → Filling A → Type 0
+AddsMade answer_to before requests after = Adds before (map answer_to requests) after

@@ -1,6 +1,7 @@
 //! The search out of the flanks of a route: what it requests to shield them, and the branches that stay open.
 #![tactic(auto)]
 
+pub mod answering;
 pub mod answers;
 mod filling;
 pub mod flanks;

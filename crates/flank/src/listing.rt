@@ -1,62 +1,64 @@
 //! Lists of the requests and of the open branches in a table.
 
-ghost use Rattle.std.specs.Prelude.{◌≡◌, ◌+◌, ◌<◌, cond, List, [], ◌∷◌, length};
-ghost use Rattle.std.specs.List.{AllZip};
+ghost use Rattle.std.specs.Prelude.{◌≡◌, ◌+◌, ◌<◌, cond, [], ◌∷◌, length, map};
 ghost use Rattle.flank.specs.Fillings.{Adds, AddsMade};
 ghost use Rattle.flank.specs.Protection.{requests_at, requests_in, branches_in, put_at};
 
+use crate::answering::Answering;
 use crate::answers::{Branch, Mark, Request};
 use crate::filling::Filling;
 use layout::position::Position;
 
-/// Adds what is made of a request, if its element is asked for it.
-fn add_asked<T: Copy, F: Fn(Request) -> T>(
+/// Adds the answer to a request, if its element is asked for it.
+fn add_asked<A: Answering>(
     is_asked: bool,
     request: Request,
-    made: &F,
-    filling: &mut Filling<T>,
+    answering: &A,
+    filling: &mut Filling<A::Answer>,
 )
-    requires callable { F.IsAlwaysCallable made.now }
-    requires few { filling.old.count < usize.MAX }
-    ensures { AddsMade (F.post made.now) filling.old (cond is_asked (request ∷ []) []) filling.new }
+    requires { filling.old.count < usize.MAX }
+    ensures { AddsMade (A.answer_to answering.now) filling.old (cond is_asked (request ∷ []) []) filling.new }
 {
     if is_asked {
-        filling.add(made(request));
+        filling.add(answering.answer(request));
     }
 }
 
-/// Adds what is made of the requests of one element.
+/// Adds the answers to the requests of one element.
 #[tactic(auto, using(crate::proofs::Filled::made_more))]
-fn add_requests<T: Copy, F: Fn(Request) -> T>(
+fn add_requests<A: Answering>(
     element: u8,
     mark: Mark,
-    made: &F,
-    filling: &mut Filling<T>,
+    answering: &A,
+    filling: &mut Filling<A::Answer>,
 )
-    requires callable { F.IsAlwaysCallable made.now }
-    requires few { filling.old.count < 100000 }
-    ensures { AddsMade (F.post made.now) filling.old (requests_at element mark) filling.new }
+    requires { filling.old.count < 100000 }
+    ensures { AddsMade (A.answer_to answering.now) filling.old (requests_at element mark) filling.new }
 {
     let position = Position::Plus;
-    add_asked(mark.plus, Request { element, position }, made, filling);
+    add_asked(mark.plus, Request { element, position }, answering, filling);
     let position = Position::Minus;
-    add_asked(mark.minus, Request { element, position }, made, filling);
+    add_asked(
+        mark.minus,
+        Request { element, position },
+        answering,
+        filling,
+    );
 }
 
-/// Writes what is made of the requests of a table into the first places of a list, as far as it has room, and gives their number.
+/// Writes the answers to the requests of a table into the first places of a list, as far as it has room, and gives their number.
 #[tactic(auto, using(crate::proofs::Lists::requests_none, crate::proofs::Filled::made_none))]
-pub(crate) fn list_requests<T: Copy, F: Fn(Request) -> T>(
+pub(crate) fn list_requests<A: Answering>(
     marked: &[Mark; 96],
-    made: &F,
-    list: &mut [T],
+    answering: &A,
+    list: &mut [A::Answer],
 ) -> usize
-    requires { F.IsAlwaysCallable made.now }
     ensures count { result ≡ length (requests_in marked.now 96) }
-    ensures list { (answers : List T) × AllZip (F.post made.now) (requests_in marked.now 96) answers × (list.new ≡ put_at answers 0 list.old) }
+    ensures list { list.new ≡ put_at (map (A.answer_to answering.now) (requests_in marked.now 96)) 0 list.old }
 {
     let mut filling = Filling::of(list);
     for (element, mark) in (0..96u8).zip(marked) {
-        add_requests(element, *mark, made, &mut filling);
+        add_requests(element, *mark, answering, &mut filling);
     }
     filling.count()
 }

@@ -1,11 +1,11 @@
 //! What protects the flanks of a route.
 
-ghost use Rattle.std.specs.Prelude.{◌≡◌, List, length};
-ghost use Rattle.std.specs.List.{AllZip};
+ghost use Rattle.std.specs.Prelude.{◌≡◌, length, map};
 ghost use Rattle.flank.specs.Used.{used_table};
 ghost use Rattle.flank.specs.Flanks.{flank_of};
 ghost use Rattle.flank.specs.Protection.{flank_marks, no_marks, route_marks, requests_of, branches_of, put_at, have_room, counts_listed, list_filled, counts_told, requests_told, branches_told};
 
+use crate::answering::{Answering, AsRequested};
 use crate::answers::{Branch, Mark, Request};
 use crate::filling::Filling;
 use crate::flanks::flank_of;
@@ -64,28 +64,27 @@ pub fn list_branches(elements: &[Element], route: &Route, list: &mut [Branch]) -
     filling.count()
 }
 
-/// Fills two lists with what is made of each request of a route, by element, and with its open branches, by used point and last point; gives the two numbers.
+/// Fills two lists with the answer to each request of a route, by element, and with its open branches, by used point and last point; gives the two numbers.
 /// Where either list is too short, both stay as they are and there is no answer.
-pub fn list_protection<T: Copy, F: Fn(Request) -> T>(
+pub fn list_protection<A: Answering>(
     elements: &[Element],
     route: &Route,
-    made: F,
-    requests: &mut [T],
+    answering: &A,
+    requests: &mut [A::Answer],
     branches: &mut [Branch],
 ) -> Option<(usize, usize)>
-    requires { F.IsAlwaysCallable made }
     ensures counts { result ≡ counts_listed elements.now route.now requests.old branches.old }
-    ensures requests { (answers : List T) × AllZip (F.post made) (requests_of elements.now route.now) answers × (requests.new ≡ list_filled (have_room elements.now route.now requests.old branches.old) answers requests.old) }
+    ensures requests { requests.new ≡ list_filled (have_room elements.now route.now requests.old branches.old) (map (A.answer_to answering.now) (requests_of elements.now route.now)) requests.old }
     ensures branches { branches.new ≡ list_filled (have_room elements.now route.now requests.old branches.old) (branches_of elements.now route.now) branches.old }
 {
     let marked = shields(elements, route);
     // Listing into no place at all counts.
-    let request_count = list_requests(&marked, &made, &mut []);
+    let request_count = list_requests(&marked, answering, &mut []);
     let branch_count = list_branches(elements, route, &mut []);
     if request_count > requests.len() || branch_count > branches.len() {
         return None;
     }
-    list_requests(&marked, &made, requests);
+    list_requests(&marked, answering, requests);
     list_branches(elements, route, branches);
     Some((request_count, branch_count))
 }
@@ -102,5 +101,5 @@ pub fn protection(
     ensures requests { requests.new ≡ requests_told elements.now route.now requests.old branches.old }
     ensures branches { branches.new ≡ branches_told elements.now route.now requests.old branches.old }
 {
-    list_protection(elements, route, |request| request, requests, branches)
+    list_protection(elements, route, &AsRequested, requests, branches)
 }

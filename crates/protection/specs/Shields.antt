@@ -3,9 +3,8 @@ use Rattle.std.specs.Prelude.{ℕ, Bool, cond, ◌&&◌, List, map, length, Some
 use Rattle.layout.specs.declared.element.Element.{Element}
 use Rattle.layout.specs.declared.route.Route.{Route}
 use Rattle.flank.specs.declared.answers.Branch.{Branch}
-use Rattle.flank.specs.declared.answers.Mark.{Mark}
 use Rattle.flank.specs.declared.answers.Request.{Request}
-use Rattle.flank.specs.Protection.{requests_at, requests_in, requests_of, branches_of, filled}
+use Rattle.flank.specs.Protection.{requests_of, branches_of, filled}
 use Rattle.holds.specs.declared.interlocking.Interlocking.{Interlocking}
 use Rattle.holds.specs.Holds.{held_in}
 use Rattle.holds.specs.Interlockings.{hold_of}

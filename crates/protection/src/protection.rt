@@ -3,8 +3,8 @@
 ghost use Rattle.std.specs.Prelude.{◌≡◌};
 ghost use Rattle.protection.specs.Shields.{counts_told, shields_told, branches_told};
 
-use crate::shield::Shield;
-use flank::answers::{Branch, Request};
+use crate::shield::{Holder, Shield};
+use flank::answers::Branch;
 use flank::protection::list_protection;
 use holds::interlocking::Interlocking;
 use layout::element::Element;
@@ -25,6 +25,9 @@ pub fn protection(
     ensures shields { shields.new ≡ shields_told elements.now drawn.now interlocking.now route shields.old branches.old }
     ensures branches { branches.new ≡ branches_told elements.now drawn.now interlocking.now route shields.old branches.old }
 {
-    let made = |request: Request| Shield::of(interlocking, route, request);
-    list_protection(elements, drawn, made, shields, branches)
+    let holder = Holder {
+        interlocking,
+        route,
+    };
+    list_protection(elements, drawn, &holder, shields, branches)
 }

@@ -1,8 +1,8 @@
 //! A request of a route, as a station sees it.
 
-ghost use Rattle.std.specs.Prelude.{◌≡◌};
 ghost use Rattle.protection.specs.Shields.{shield_of};
 
+use flank::answering::Answering;
 use flank::answers::Request;
 use holds::interlocking::Interlocking;
 use layout::position::Position;
@@ -16,16 +16,26 @@ pub struct Shield {
     pub held: bool,
 }
 
-impl Shield {
-    /// A request of a route, with what the route holds of it.
-    pub(crate) fn of(interlocking: &Interlocking, route: usize, request: Request) -> Shield
-        ensures { result ≡ shield_of interlocking.now route request }
-    {
+/// A route, with what is held.
+#[derive(Clone, Copy)]
+pub(crate) struct Holder<'a> {
+    pub(crate) interlocking: &'a Interlocking,
+    pub(crate) route: usize,
+}
+
+/// A request of the route, with whether the route holds it.
+impl Answering for Holder<'_> {
+    type Answer = Shield;
+
+    ghost answer_to = { λ holder request. shield_of holder.interlocking.now holder.route request };
+
+    fn answer(&self, request: Request) -> Shield {
         let Request { element, position } = request;
+        let held = self.interlocking.is_held_in(self.route, element, position);
         Shield {
             element,
             position,
-            held: interlocking.is_held_in(route, element, position),
+            held,
         }
     }
 }

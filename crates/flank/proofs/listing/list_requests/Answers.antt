@@ -7,8 +7,8 @@ use Rattle.flank.proofs.Lists.{requests_few}
 use Rattle.flank.proofs.Filled.{made_length, requests_made_more}
 use Rattle.flank.proofs.listing.list_requests.Goals as goal
 
-pub add_requests-requires-clause-few : goal.add_requests-requires-clause-few
-add_requests-requires-clause-few g c =
+pub add_requests-requires : goal.add_requests-requires
+add_requests-requires g c =
     omega (
       arith,
       made_length _ _ _ _ c.loop-element.invariant.3,

@@ -10,4 +10,4 @@ invariant-loop-element g l =
     (goal.iterator-loop-element g).can_next l.element-iterator
     × (goal.iterator-loop-element g).is_finite l.element-iterator
     × Stands l.marked l.element-iterator
-    × AddsMade (goal.F-post g l.made) l.initial.filling (requests_in l.marked at) l.filling
+    × AddsMade (g.A.Answering.answer_to l.answering) l.initial.filling (requests_in l.marked at) l.filling
