@@ -39,22 +39,22 @@ fn burning(signal: u8) -> Act {
 
 /// A journal of acts.
 fn journal_of(heap: Global, acts: &[Act]) -> Result<Vec<Entry>, AllocError> {
-    acts.iter()
-        .map(|act| Entry {
-            act: *act,
-            refusal: None,
-        })
-        .collect(heap)
+    acts.iter().map(|act| Entry::from(*act)).collect(heap)
 }
 
-/// The number of what a signal shows once the acts of a journal are performed; 255 where there is no such signal.
-fn shown<F: Field + Drop>(bytes: &[u8], field: F, journal: &mut [Entry], signal: u8) -> u8 {
+/// The number of what a signal shows once the acts of a journal are performed.
+fn shown<F: Field + Drop>(
+    bytes: &[u8],
+    field: F,
+    journal: &mut [Entry],
+    signal: u8,
+) -> anyhow::Result<u8> {
     let mut plan = Plan::fresh();
-    let _ = plan.read(bytes);
+    plan.read(bytes)?;
     let station = perform_all(plan, field, journal);
-    let shown = station.aspect(signal).map_or(255, |aspect| aspect.number());
+    let aspect = station.aspect(signal);
     let ClosedStation { plan: _, field: _ } = station.close();
-    shown
+    Ok(aspect?.number())
 }
 
 /// Prints what a signal shows after some acts, on a fresh table and on a dark contact picture with no contact closed.
@@ -66,9 +66,9 @@ fn show(
     signal: u8,
 ) -> anyhow::Result<()> {
     let mut journal = journal_of(rt.alloc(), acts)?;
-    let on_table = shown(bytes, TableField::fresh(), journal.as_mut_slice(), signal);
+    let on_table = shown(bytes, TableField::fresh(), journal.as_mut_slice(), signal)?;
     let picture = ContactPicture::from([0; 104]);
-    let on_picture = shown(bytes, picture, journal.as_mut_slice(), signal);
+    let on_picture = shown(bytes, picture, journal.as_mut_slice(), signal)?;
     println!(rt;
         "{what}: signal {signal} shows {on_table} on a table, {on_picture} on a contact picture"
     )?;

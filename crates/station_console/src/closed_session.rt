@@ -7,23 +7,22 @@ use spoken::asked::Asked;
 use spoken::looking::see;
 use spoken::preparing::{read_plan, work_on};
 use station::closed::ClosedStation;
-use std::alloc::Global;
 
 /// A closed station, with the bytes that its plan was read from; none where the plan is fresh.
 pub struct ClosedSession {
     pub station: ClosedStation<Equipment>,
-    pub bytes: Vec<u8>,
+    pub bytes: Option<Vec<u8>>,
 }
 
 impl ClosedSession {
     /// A fresh plan and a fresh table.
-    pub fn new(heap: Global) -> ClosedSession {
+    pub fn new() -> ClosedSession {
         ClosedSession {
             station: ClosedStation {
                 plan: Plan::fresh(),
                 field: Equipment::table(),
             },
-            bytes: Vec::new(heap),
+            bytes: None,
         }
     }
 
@@ -36,7 +35,7 @@ impl ClosedSession {
     /// Reads a plan from hexadecimal digits, and says what became of it.
     fn read_plan(&mut self, rt: &HostRuntime, digits: &str) -> anyhow::Result<()> {
         if let Some(bytes) = read_plan(rt, &mut self.station.plan, digits)? {
-            self.bytes = bytes;
+            self.bytes = Some(bytes);
         }
         Ok(())
     }

@@ -1,7 +1,6 @@
 //! The console: commands on standard input, one on a line, and what each did in print.
 #![tactic(auto)]
 
-mod acting;
 mod asking;
 mod closed_session;
 mod command;
@@ -29,7 +28,7 @@ fn carry_out(rt: &HostRuntime, session: Session, line: &str) -> anyhow::Result<S
 
 fn main(rt: HostRuntime) -> anyhow::Result<()> {
     let input = BufReader::new(rt.alloc(), rt.stdin())?;
-    let mut session = Session::new(rt.alloc());
+    let mut session = Session::new();
     for line in input.lines(rt.alloc()) {
         session = match line {
             Ok(text) => carry_out(&rt, session, text.as_str())?,

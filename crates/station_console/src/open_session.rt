@@ -1,6 +1,5 @@
 //! An open station and what is done to it.
 
-use crate::acting::print_entry;
 use crate::asking::{show_aspect, show_protection, show_protection_lent, show_state, show_station};
 use crate::closed_session::ClosedSession;
 use crate::command::{Command, Question};
@@ -17,7 +16,7 @@ use std::alloc::Global;
 /// An open station, with what its acts can be performed again from: the bytes of its plan, the field at its opening, and the acts.
 pub struct OpenSession {
     pub station: OpenStation<Equipment>,
-    pub bytes: Vec<u8>,
+    pub bytes: Option<Vec<u8>>,
     pub first_field: Equipment,
     pub journal: Vec<Entry>,
 }
@@ -54,7 +53,7 @@ impl OpenSession {
         let refusal = self.station.perform(act).err();
         let entry = Entry { act, refusal };
         self.journal.push(entry)?;
-        print_entry(rt, entry)?;
+        println!(rt; "{entry}")?;
         Ok(())
     }
 

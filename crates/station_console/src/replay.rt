@@ -1,10 +1,11 @@
 //! The acts since the opening, performed again.
 
-use crate::acting::print_entry;
 use crate::open_session::OpenSession;
 use equipment::equipment::Equipment;
+use faults::fault::Fault;
 use field::field::Field;
 use plan::plan::Plan;
+use spoken::looking::print_lines;
 use station::closed::ClosedStation;
 use station::journal::Entry;
 use station::open_station::OpenStation;
@@ -15,10 +16,7 @@ use std::alloc::{AllocError, Global};
 fn unanswered(heap: Global, journal: &[Entry]) -> Result<Vec<Entry>, AllocError> {
     journal
         .iter()
-        .map(|entry| Entry {
-            act: entry.act,
-            refusal: None,
-        })
+        .map(|entry| Entry::from(entry.act))
         .collect(heap)
 }
 
@@ -39,11 +37,13 @@ fn is_same(one: &OpenStation<Equipment>, other: &OpenStation<Equipment>) -> bool
         && (0..64u8).all(|section| field.is_occupied(section) == other_field.is_occupied(section))
 }
 
-/// The plan that bytes were read into; the fresh one where they were none.
-fn plan_of(bytes: &[u8]) -> Plan {
+/// The plan that bytes were read into; the fresh one where there are none.
+fn plan_of(bytes: Option<&Vec<u8>>) -> Result<Plan, Fault> {
     let mut plan = Plan::fresh();
-    let _ = plan.read(bytes);
-    plan
+    if let Some(bytes) = bytes {
+        plan.read(bytes.as_slice())?;
+    }
+    Ok(plan)
 }
 
 /// Performs the acts since the opening again, on the same plan and on what the field was at the opening, prints the answers, and says
@@ -51,16 +51,13 @@ fn plan_of(bytes: &[u8]) -> Plan {
 pub fn replay(rt: &HostRuntime, session: &OpenSession) -> anyhow::Result<()> {
     let mut journal = unanswered(rt.alloc(), session.journal.as_slice())?;
     let replayed = perform_all(
-        plan_of(session.bytes.as_slice()),
+        plan_of(session.bytes.as_ref())?,
         session.first_field.duplicate(),
         journal.as_mut_slice(),
     );
     let same = is_same(&session.station, &replayed);
     let ClosedStation { plan: _, field: _ } = replayed.close();
-    for entry in journal.iter() {
-        print!(rt; "  ")?;
-        print_entry(rt, *entry)?;
-    }
+    print_lines(rt, journal.as_slice())?;
     let word = if same { "same" } else { "different" };
     println!(rt; "replay: {word}")?;
     Ok(())

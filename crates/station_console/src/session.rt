@@ -4,7 +4,6 @@ use crate::closed_session::ClosedSession;
 use crate::command::Command;
 use crate::open_session::OpenSession;
 use spoken::mistake::Mistake;
-use std::alloc::Global;
 
 pub enum Session {
     Closed(ClosedSession),
@@ -17,8 +16,8 @@ fn print_mistake(rt: &HostRuntime, mistake: Mistake) -> anyhow::Result<()> {
 }
 
 impl Session {
-    pub fn new(heap: Global) -> Session {
-        Session::Closed(ClosedSession::new(heap))
+    pub fn new() -> Session {
+        Session::Closed(ClosedSession::new())
     }
 
     /// Takes the station apart.

@@ -9,63 +9,44 @@ use spoken::words::{first_word, number, two_numbers};
 /// What a command asks for.
 pub fn understood<'a>(name: &str, rest: &'a str) -> Result<Command<'a>, Mistake> {
     match name {
-        "open" => {
-            wants_nothing(rest)?;
-            Ok(Command::Open)
-        }
-        "close" => {
-            wants_nothing(rest)?;
-            Ok(Command::Close)
-        }
-        "set" | "clear" | "release" => Ok(Command::Perform(act(name, one_wanted(rest)?))),
-        "report" | "block" | "lamp" | "occupy" => {
-            let (number, value) = two_wanted(rest)?;
-            let event = event(name, number, value);
-            Ok(Command::Perform(Act::Tell { event }))
-        }
-        "state" | "aspect" | "protection" | "replay" => Ok(Command::Ask(question(name, rest)?)),
+        "open" => alone(rest, Command::Open),
+        "close" => alone(rest, Command::Close),
+        "replay" => alone(rest, Command::Ask(Question::Replay)),
+        "set" => on_route(rest, |route| Act::Set { route }),
+        "clear" => on_route(rest, |route| Act::Clear { route }),
+        "release" => on_route(rest, |route| Act::Release { route }),
+        "report" => told(rest, |element, value| Event::Report { element, value }),
+        "block" => told(rest, |element, value| Event::Block { element, value }),
+        "lamp" => told(rest, |signal, value| Event::Lamp { signal, value }),
+        "occupy" => told(rest, |section, value| Event::Occupation { section, value }),
+        "state" => Ok(Command::Ask(Question::State(one_wanted(rest)?))),
+        "aspect" => Ok(Command::Ask(Question::Aspect(one_wanted(rest)?))),
+        "protection" => Ok(Command::Ask(protection(rest).ok_or(Mistake::WantsOneNumberOrThree)?)),
         _ => Ok(Command::Usual(asked(name, rest)?)),
     }
 }
 
-/// What is done with a route.
-fn act(name: &str, route: u8) -> Act {
-    match name {
-        "set" => Act::Set { route },
-        "clear" => Act::Clear { route },
-        _ => Act::Release { route },
-    }
+/// A command that is one word.
+fn alone<'a>(rest: &str, command: Command<'a>) -> Result<Command<'a>, Mistake> {
+    wants_nothing(rest)?;
+    Ok(command)
 }
 
-/// What is told of an element or section.
-fn event(name: &str, number: u8, value: u8) -> Event {
-    match name {
-        "report" => Event::Report {
-            element: number,
-            value,
-        },
-        "block" => Event::Block {
-            element: number,
-            value,
-        },
-        "lamp" => Event::Lamp {
-            signal: number,
-            value,
-        },
-        _ => Event::Occupation {
-            section: number,
-            value,
-        },
-    }
+/// An act on the route of a number.
+fn on_route<'a, F: FnOnce(u8) -> Act>(rest: &str, act: F) -> Result<Command<'a>, Mistake>
+    requires { F.IsAlwaysCallable act }
+{
+    let route = one_wanted(rest)?;
+    Ok(Command::Perform(act(route)))
 }
 
-fn question(name: &str, rest: &str) -> Result<Question, Mistake> {
-    match name {
-        "state" => Ok(Question::State(one_wanted(rest)?)),
-        "aspect" => Ok(Question::Aspect(one_wanted(rest)?)),
-        "protection" => protection(rest).ok_or(Mistake::WantsOneNumberOrThree),
-        _ => wants_nothing(rest).map(|()| Question::Replay),
-    }
+/// What is told of the element or section of a number, with a value.
+fn told<'a, F: FnOnce(u8, u8) -> Event>(rest: &str, event: F) -> Result<Command<'a>, Mistake>
+    requires { F.IsAlwaysCallable event }
+{
+    let (number, value) = two_wanted(rest)?;
+    let event = event(number, value);
+    Ok(Command::Perform(Act::Tell { event }))
 }
 
 /// The protection of a route, with or without the lengths of two lists.
