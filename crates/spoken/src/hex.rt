@@ -82,3 +82,31 @@ pub fn picture_of(heap: Global, text: &str) -> Result<[u8; 104], HexFault> {
     let bytes = bytes_of(heap, text)?;
     <[u8; 104]>::try_from(bytes.as_slice()).map_err(|_| HexFault::NoPicture)
 }
+
+#[cfg(test)]
+mod tests {
+    use super::*;
+    use std::test::Fail;
+
+    #[test]
+    fn digits_spell_bytes(rt: HostRuntime) -> Result<(), Fail> {
+        let bytes = bytes_of(rt.alloc(), "08 0a|FF\t7").err();
+        assert_eq!(rt; bytes, Some(HexFault::HalfByte));
+        let bytes = bytes_of(rt.alloc(), " 08 0a|FF\t70 ")?;
+        assert_eq!(rt; bytes.as_slice(), [0x08, 0x0A, 0xFF, 0x70].as_slice());
+        Ok(())
+    }
+
+    #[test]
+    fn a_picture_has_all_its_bytes(rt: HostRuntime) -> Result<(), Fail> {
+        let mut digits = String::new(rt.alloc());
+        for _ in 0..104u8 {
+            digits.push_str("2A")?;
+        }
+        assert_eq!(rt; picture_of(rt.alloc(), digits.as_str())?, [0x2A; 104]);
+        digits.push_str("2A")?;
+        let longer = picture_of(rt.alloc(), digits.as_str()).err();
+        assert_eq!(rt; longer, Some(HexFault::NoPicture));
+        Ok(())
+    }
+}
