@@ -1,7 +1,6 @@
 -- What an act makes of the situation.
-use Rattle.std.specs.Prelude.{ℕ, cond, List, [], Some, None, Option, ◌==◌}
-use Rattle.layout.specs.declared.position.Position.{Position}
-use Rattle.layout.specs.declared.position.Position.TheVariants as position
+use Rattle.std.specs.Prelude.{List, [], Some, None, Option, ◌==◌}
+use Rattle.layout.specs.Numbers.{position_with}
 use Rattle.field.specs.Meaning.{Meaning, told_report, told_block, told_lamp, told_occupation}
 use Rattle.refusals.specs.declared.refusal.Refusal.{Refusal}
 use Rattle.sheets.specs.declared.sheet.Sheets.{Sheets}
@@ -17,13 +16,9 @@ use Rattle.acts.specs.Situations.{Situation, situation}
 use Rattle.acts.specs.Orders.{sent, Order, orders}
 use Rattle.acts.specs.Answers.{answer}
 
--- The report with a number: 0 and 1 are the positions, anything else is no control.
-abbrev pub report_with : ℕ → Option Position
-report_with v = cond (v == 0) (Some position.Plus) (cond (v == 1) (Some position.Minus) None)
-
--- An event tells the field; 1 is blocked, burning, occupied.
+-- An event tells the field; a report is the position with its number, and any other number is no control; 1 is blocked, burning, occupied.
 abbrev pub told : Meaning → Event → Meaning
-told m (event.Report e v) = told_report m e (report_with v)
+told m (event.Report e v) = told_report m e (position_with v)
 told m (event.Block e v) = told_block m e (v == 1)
 told m (event.Lamp e v) = told_lamp m e (v == 1)
 told m (event.Occupation x v) = told_occupation m x (v == 1)

@@ -6,7 +6,7 @@ use Rattle.refusals.specs.declared.refusal.Refusal.{Refusal}
 use Rattle.refusals.specs.declared.refusal.Refusal.TheVariants as refusal
 use Rattle.sheets.specs.declared.sheet.RouteSheet.{RouteSheet}
 use Rattle.sheets.specs.declared.sheet.Sheets.{Sheets}
-use Rattle.sheets.specs.Lists.{all_of}
+use Rattle.std.specs.List.{list_all}
 use Rattle.sheets.specs.Reading.{has_route, route_sheet, on_path, used_by, element_of, moves, has_section}
 use Rattle.holds.specs.declared.interlocking.Interlocking.{Interlocking}
 use Rattle.holds.specs.States.{stands}
@@ -28,7 +28,7 @@ path_free_at s m x = not (on_path s x && occupied_of m x)
 
 -- Every section that the path of a route uses is free.
 abbrev pub path_free : RouteSheet → Meaning → Bool
-path_free s m = all_of (path_free_at s m) (used_by s)
+path_free s m = list_all (path_free_at s m) (used_by s)
 
 -- Why a route of the plan may not be released: it does not stand; a section that its path uses is occupied.
 abbrev pub release_refusal : RouteSheet → ℕ → Interlocking → Meaning → Option Refusal

@@ -3,7 +3,7 @@
 use std::fmt;
 
 /// What the outdoor equipment tells, with the number of an element or section and a value.
-#[derive(Clone, Copy)]
+#[derive(Clone, Copy, PartialEq, Eq)]
 pub enum Event {
     /// A point or derailer reports 0, 1, or 2 for no control.
     Report { element: u8, value: u8 },
@@ -16,7 +16,7 @@ pub enum Event {
 }
 
 /// What can be done with an open station.
-#[derive(Clone, Copy)]
+#[derive(Clone, Copy, PartialEq, Eq)]
 pub enum Act {
     /// A route is set.
     Set { route: u8 },
@@ -29,6 +29,11 @@ pub enum Act {
 }
 
 impl fmt::Display for Event {
+    ghost use Rattle.std.specs.Prelude.{Some};
+    ghost use Rattle.acts.specs.Texts.{event_text};
+
+    ghost output = { λ event. Some (event_text event) };
+
     fn fmt<W: fmt::Write>(&self, f: &mut fmt::Formatter<W>) -> fmt::Result {
         match *self {
             Event::Report { element, value } => write!(f, "report {element} {value}"),
@@ -40,6 +45,11 @@ impl fmt::Display for Event {
 }
 
 impl fmt::Display for Act {
+    ghost use Rattle.std.specs.Prelude.{Some};
+    ghost use Rattle.acts.specs.Texts.{act_text};
+
+    ghost output = { λ act. Some (act_text act) };
+
     fn fmt<W: fmt::Write>(&self, f: &mut fmt::Formatter<W>) -> fmt::Result {
         match *self {
             Act::Set { route } => write!(f, "set {route}"),

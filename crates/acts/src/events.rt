@@ -1,7 +1,7 @@
 //! What a station is told of its outdoor equipment.
 
 ghost use Rattle.std.specs.Prelude.{◌≡◌};
-ghost use Rattle.refusals.specs.Numbers.{refusal_in};
+ghost use Rattle.std.specs.Result.{result_err};
 ghost use Rattle.acts.specs.Answers.{is_event, event_refusal};
 ghost use Rattle.acts.specs.Acts.{told};
 
@@ -25,7 +25,7 @@ fn is_event(sheets: &Sheets, event: Event) -> bool
 
 /// Whether an event may be told, and if not, why.
 pub(crate) fn may_tell(sheets: &Sheets, event: Event) -> Result<(), Refusal>
-    ensures { refusal_in result ≡ event_refusal sheets.now event }
+    ensures { result_err result ≡ event_refusal sheets.now event }
 {
     if is_event(sheets, event) {
         Ok(())

@@ -6,7 +6,7 @@ ghost use Rattle.acts.specs.Orders.{section_free, due, sent_one, sent};
 
 use field::field::Field;
 use readiness::yard::Yard;
-use sheets::sheet::Sheets;
+use sheets::sheet::{ElementSheet, Sheets};
 
 /// Whether the section of an element, if it has one, is free.
 fn is_section_free<F: Field>(field: &F, section: Option<u8>) -> bool
@@ -16,10 +16,9 @@ fn is_section_free<F: Field>(field: &F, section: Option<u8>) -> bool
 }
 
 /// Whether an element is a point or derailer that the route holds, that does not report the position in which it is held, whose section is free, and that is not blocked.
-fn is_due<F: Field>(sheets: &Sheets, yard: &Yard<F>, route: usize, element: u8) -> bool
-    ensures { result ≡ due sheets.now yard.now.interlocking route (F.meaning yard.now.field) element }
+fn is_due<F: Field>(sheet: ElementSheet, yard: &Yard<F>, route: usize, element: u8) -> bool
+    ensures { result ≡ due sheet yard.now.interlocking route (F.meaning yard.now.field) element }
 {
-    let sheet = sheets.element(element);
     sheet.moves()
         && yard.interlocking.is_held_by(route, element)
         && yard.field.report(element) != Some(yard.interlocking.position(element))
@@ -27,10 +26,10 @@ fn is_due<F: Field>(sheets: &Sheets, yard: &Yard<F>, route: usize, element: u8) 
         && !yard.field.is_blocked(element)
 }
 
-fn send_one<F: Field>(sheets: &Sheets, yard: &mut Yard<F>, route: usize, element: u8)
-    ensures { situation_of F.meaning yard.new ≡ situation yard.old.interlocking (sent_one sheets.now yard.old.interlocking route (F.meaning yard.old.field) element) }
+fn send_one<F: Field>(sheet: ElementSheet, yard: &mut Yard<F>, route: usize, element: u8)
+    ensures { situation_of F.meaning yard.new ≡ situation yard.old.interlocking (sent_one sheet yard.old.interlocking route (F.meaning yard.old.field) element) }
 {
-    if is_due(sheets, yard, route, element) {
+    if is_due(sheet, yard, route, element) {
         let position = yard.interlocking.position(element);
         yard.field.order(element, position);
     }
@@ -41,8 +40,7 @@ fn send_one<F: Field>(sheets: &Sheets, yard: &mut Yard<F>, route: usize, element
 pub(crate) fn send_orders<F: Field>(sheets: &Sheets, yard: &mut Yard<F>, route: usize)
     ensures { situation_of F.meaning yard.new ≡ situation yard.old.interlocking (sent sheets.now yard.old.interlocking route (F.meaning yard.old.field) 96) }
 {
-    // the outdoor equipment has a number for each element, and no list of them
-    for element in 0..96u8 {
-        send_one(sheets, yard, route, element);
+    for (element, sheet) in sheets.elements.iter().enumerate() {
+        send_one(*sheet, yard, route, element as u8);
     }
 }

@@ -1,7 +1,7 @@
 //! When a route may be released.
 
 ghost use Rattle.std.specs.Prelude.{◌≡◌};
-ghost use Rattle.refusals.specs.Numbers.{refusal_in};
+ghost use Rattle.std.specs.Result.{result_err};
 ghost use Rattle.acts.specs.Answers.{path_free_at, path_free, release_refusal};
 
 use field::field::Field;
@@ -33,7 +33,7 @@ pub(crate) fn may_release<F: Field>(
     yard: &Yard<F>,
     route: usize,
 ) -> Result<(), Refusal>
-    ensures { refusal_in result ≡ release_refusal sheet.now route yard.now.interlocking (F.meaning yard.now.field) }
+    ensures { result_err result ≡ release_refusal sheet.now route yard.now.interlocking (F.meaning yard.now.field) }
 {
     if !yard.interlocking.state(route).stands() {
         Err(Refusal::NotStanding)

@@ -9,7 +9,7 @@ use std::fmt;
 use tablefield::table::TableField;
 
 /// What came of the acts: how many there were, how many of them were accepted, and the sum of all aspects that were seen.
-#[derive(Clone, Copy)]
+#[derive(Clone, Copy, Default)]
 pub(crate) struct Tally {
     pub acts: u64,
     pub accepted: u64,
@@ -17,6 +17,10 @@ pub(crate) struct Tally {
 }
 
 impl fmt::Display for Tally {
+    ghost use Rattle.std.specs.Prelude.{Some, codes, decimal, ◌++◌};
+
+    ghost output = { λ tally. Some (codes "acts " ++ (decimal tally.acts ++ (codes ", accepted " ++ (decimal tally.accepted ++ (codes ", aspects " ++ decimal tally.aspects))))) };
+
     fn fmt<W: fmt::Write>(&self, f: &mut fmt::Formatter<W>) -> fmt::Result {
         let Tally {
             acts,
@@ -125,11 +129,7 @@ pub(crate) fn worked(plan: Plan, rounds: u32) -> Tally {
     let field = TableField::fresh();
     let mut bench = Bench {
         station: ClosedStation { plan, field }.open(),
-        tally: Tally {
-            acts: 0,
-            accepted: 0,
-            aspects: 0,
-        },
+        tally: Tally::default(),
     };
     for round in 0..rounds {
         bench.round((round % 4) as u8);

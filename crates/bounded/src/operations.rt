@@ -1,25 +1,19 @@
 //! Making, growing and reading a bounded list.
 
 ghost use Rattle.std.specs.Prelude.{◌≡◌, ltb};
-ghost use Rattle.bounded.specs.Lists.{listed, blanks, empty_of, pushed};
+ghost use Rattle.bounded.specs.Lists.{listed, empty_of, pushed};
 
 use crate::bounded::Bounded;
 
-/// A table with one item in all places.
-fn blank_places<T: Copy, const N: usize>(blank: T) -> [T; N]
-    ensures { result ≡ blanks N blank }
-{
-    [blank; N]
-}
-
 impl<T: Copy, const N: usize> Bounded<T, N> {
     /// A list that holds nothing; `blank` fills its places.
+    #[tactic(auto, unfolding(crate::specs::Lists::blanks))]
     pub fn empty(blank: T) -> Self
         ensures { result ≡ empty_of blank }
     {
         Bounded {
             count: 0,
-            places: blank_places(blank),
+            places: [blank; N],
         }
     }
 

@@ -4,7 +4,7 @@
 mod session;
 
 use session::Session;
-use spoken::mistake::Mistake;
+use spoken::mistake::{Mistake, print_error};
 use spoken::understanding::{asked, command_on};
 use std::io::{BufRead, BufReader};
 
@@ -15,7 +15,7 @@ fn answer(rt: &HostRuntime, session: &mut Session, line: &str) -> anyhow::Result
     };
     match asked(name, rest) {
         Ok(asked) => session.answer(rt, asked)?,
-        Err(mistake) => println!(rt; "error: {mistake}")?,
+        Err(mistake) => print_error(rt, mistake)?,
     }
     Ok(())
 }
@@ -25,10 +25,7 @@ fn main(rt: HostRuntime) -> anyhow::Result<()> {
     for line in BufReader::new(rt.alloc(), rt.stdin())?.lines(rt.alloc()) {
         match line {
             Ok(text) => answer(&rt, &mut session, text.as_str())?,
-            Err(_) => {
-                let mistake = Mistake::NoText;
-                println!(rt; "error: {mistake}")?
-            }
+            Err(_) => print_error(&rt, Mistake::NoText)?,
         }
     }
     Ok(())

@@ -37,6 +37,12 @@ unfolding bit
 order_coded_by position.Plus = refl
 order_coded_by position.Minus = refl
 
+-- an order is written as the contacts of its position would be
+pub order_shown : (b : ℕ) (p : Position) → with_bit (with_bit b 4 (plus_contact (Some p))) 5 (minus_contact (Some p)) ≡ order_put b p
+unfolding bit
+order_shown b position.Plus = refl
+order_shown b position.Minus = refl
+
 pub report_told : (b : ℕ) (r : Option Position) → b < 256 → device_in (report_put b r) ≡ device_reporting (device_in b) r
 report_told b r fits =
     let after = bit_after_two b 0 1 (plus_contact r) (minus_contact r) fits in

@@ -1,16 +1,18 @@
 -- What the bytes of a contact picture mean, and what they mean after one of them is written.
-use Rattle.std.specs.Prelude.{◌≡◌, ℕ, ◌+◌, ◌/◌, ◌%◌, ◌<◌, ◌≤◌, Bool, ◌≢◌, List, length, get_or, set, ◌==◌, slice_index, slice_index_or, slice_set, refl}
+use Rattle.std.specs.Prelude.{◌≡◌, ℕ, ◌+◌, ◌/◌, ◌%◌, ◌<◌, ◌≤◌, Bool, ◌≢◌, List, length, get_or, set, ◌==◌, slice_index, slice_index_or, slice_set, Option, refl}
 use Rattle.std.proofs.Common.{sym, ap, ◌∙◌, inl, inr, arith}
 use Rattle.std.proofs.lemmas.List.FromFn.{get_or-map-range_with_len}
 use Rattle.std.proofs.lemmas.List.{get_or-set_same, get_or-set_other}
-use Rattle.std.proofs.lemmas.Bool.{lt-ltb, eq-eqb, ne_eqb, cond-true, cond-false, cases_eq}
+use Rattle.std.proofs.lemmas.Bool.{lt-ltb, le-ltb, eq-eqb, ne_eqb, cond-true, cond-false, cases_eq, cases_lt}
 use Rattle.bits.specs.Bits.{bit, with_bit}
 use Rattle.bits.proofs.BitsAfter.{bit_after}
+use Rattle.layout.specs.declared.position.Position.{Position}
 use Rattle.field.specs.declared.device.Device.{Device}
-use Rattle.field.specs.Devices.{blank}
-use Rattle.field.specs.Meaning.{with_device, told_occupation}
-use Rattle.contacts.specs.Bytes.{device_in}
-use Rattle.contacts.specs.Picture.{devices_in, sections_in, section_in, bytes_mean, with_section}
+use Rattle.field.specs.Devices.{blank, device_ordered, device_reporting, device_blocking, device_burning}
+use Rattle.field.specs.Meaning.{with_device, ordered, told_report, told_block, told_lamp, told_occupation}
+use Rattle.contacts.specs.Bytes.{device_in, report_put, block_put, lamp_put, byte_ordered}
+use Rattle.contacts.specs.Picture.{byte_of, devices_in, sections_in, section_byte, section_bit, section_in, bytes_mean, with_byte}
+use Rattle.contacts.proofs.Decoded.{report_told, order_taken, block_told, lamp_told}
 use Rattle.contacts.proofs.Counted.{same_counted, set_counted}
 
 pub device_at : (bytes : List ℕ) (e : ℕ) (d : Device) → e < 96 → slice_index_or (devices_in bytes) e d ≡ device_in (slice_index bytes e)
@@ -38,15 +40,33 @@ sections_kept bytes e b h =
     let ne : 96 + k / 8 ≢ e = omega arith in
     ap (λ x. bit x (k % 8)) (get_or-set_other bytes e (96 + k / 8) b 0 ne))
 
-pub element_written :
+-- nothing is written above the elements, and no device changes
+element_written :
     (bytes : List ℕ) (e b : ℕ) (change : Device → Device) →
-    length bytes ≡ 104 → e < 96 → device_in b ≡ change (device_in (slice_index bytes e)) →
-    bytes_mean (slice_set bytes e b) ≡ with_device (bytes_mean bytes) e (change (slice_index_or (devices_in bytes) e blank))
-element_written bytes e b change n h means =
-    let devices : devices_in (slice_set bytes e b) ≡ slice_set (devices_in bytes) e (change (slice_index_or (devices_in bytes) e blank))
-    = devices_put bytes e b n h ∙
-    ap (set (devices_in bytes) e) (means ∙ ap change (sym (device_at bytes e blank h))) in
-    rw (lt-ltb e 96 h, devices, sections_kept bytes e b h)
+    length bytes ≡ 104 → device_in b ≡ change (device_in (slice_index bytes e)) →
+    bytes_mean (with_byte bytes e (λ _. b)) ≡ with_device (bytes_mean bytes) e (change (slice_index_or (devices_in bytes) e blank))
+element_written bytes e b change n means = elim (cases_lt e 96) [
+  | inl h ↦
+      let devices : devices_in (slice_set bytes e b) ≡ slice_set (devices_in bytes) e (change (slice_index_or (devices_in bytes) e blank))
+      = devices_put bytes e b n h ∙
+      ap (set (devices_in bytes) e) (means ∙ ap change (sym (device_at bytes e blank h))) in
+      rw (lt-ltb e 96 h, devices, sections_kept bytes e b h)
+  | inr h ↦ rw (le-ltb e 96 h)
+]
+
+-- an element's byte is written as an order or a telling writes it
+module _ (bytes : List ℕ) (e : ℕ) (sized : length bytes ≡ 104) (fits : slice_index bytes e < 256) where
+  pub order_written : (p : Position) → bytes_mean (with_byte bytes e (λ b. byte_ordered b p)) ≡ ordered (bytes_mean bytes) e p
+  order_written p = element_written bytes e _ (λ d. device_ordered d p) sized (order_taken (slice_index bytes e) p fits)
+
+  pub report_written : (r : Option Position) → bytes_mean (with_byte bytes e (λ b. report_put b r)) ≡ told_report (bytes_mean bytes) e r
+  report_written r = element_written bytes e _ (λ d. device_reporting d r) sized (report_told (slice_index bytes e) r fits)
+
+  pub block_written : (v : Bool) → bytes_mean (with_byte bytes e (λ b. block_put b v)) ≡ told_block (bytes_mean bytes) e v
+  block_written v = element_written bytes e _ (λ d. device_blocking d v) sized (block_told (slice_index bytes e) v fits)
+
+  pub lamp_written : (v : Bool) → bytes_mean (with_byte bytes e (λ b. lamp_put b v)) ≡ told_lamp (bytes_mean bytes) e v
+  lamp_written v = element_written bytes e _ (λ d. device_burning d v) sized (lamp_told (slice_index bytes e) v fits)
 
 -- a section's byte is written: no device changes
 devices_kept : (bytes : List ℕ) (i b : ℕ) → 96 ≤ i → devices_in (slice_set bytes i b) ≡ devices_in bytes
@@ -92,7 +112,7 @@ sections_put bytes s v n h fits =
 pub section_written :
     (bytes : List ℕ) (s : ℕ) (v : Bool) →
     length bytes ≡ 104 → s < 64 → slice_index bytes (96 + s / 8) < 256 →
-    bytes_mean (with_section bytes s v) ≡ told_occupation (bytes_mean bytes) s v
+    bytes_mean (slice_set bytes (section_byte s) (with_bit (byte_of bytes (section_byte s)) (section_bit s) v)) ≡ told_occupation (bytes_mean bytes) s v
 section_written bytes s v n h fits =
     let new = with_bit (slice_index bytes (96 + s / 8)) (s % 8) v in
     rw (lt-ltb s 64 h, sections_put bytes s v n h fits, devices_kept bytes (96 + s / 8) new (omega arith))

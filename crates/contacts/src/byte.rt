@@ -1,8 +1,8 @@
 //! The byte of one element.
 
 ghost use Rattle.std.specs.Prelude.{◌≡◌};
-ghost use Rattle.bits.specs.Bits.{bit};
-ghost use Rattle.contacts.specs.Bytes.{report_shown, report_in, order_in, device_in, plus_contact, minus_contact, order_code, report_put, block_put, lamp_put, order_put, byte_ordered};
+ghost use Rattle.bits.specs.Bits.{bit, with_bit};
+ghost use Rattle.contacts.specs.Bytes.{report_shown, report_in, order_in, device_in, plus_contact, minus_contact, report_put, block_put, lamp_put, order_put, byte_ordered};
 
 use bits::byte::{has_bit, with_bit};
 use field::device::Device;
@@ -58,30 +58,19 @@ pub(crate) fn device_in(byte: u8) -> Device
     }
 }
 
-/// The plus contact and the minus contact that show a report.
-fn contacts_of(report: Option<Position>) -> (bool, bool)
-    ensures { result ≡ (plus_contact report, minus_contact report) }
+/// The byte with two bits that show a position, the first one plus and the second one minus; no position is shown by neither.
+fn with_position(byte: u8, plus: u8, minus: u8, position: Option<Position>) -> u8
+    ensures { result ≡ with_bit (with_bit byte plus (plus_contact position)) minus (minus_contact position) }
 {
-    match report {
-        Some(Position::Plus) => (true, false),
-        Some(Position::Minus) => (false, true),
-        None => (false, false),
-    }
-}
-
-/// The number that the order bits hold for an order.
-fn order_code(position: Position) -> u8
-    ensures { result ≡ order_code position }
-{
-    position.number() + 1
+    let plus_written = with_bit(byte, plus, position == Some(Position::Plus));
+    with_bit(plus_written, minus, position == Some(Position::Minus))
 }
 
 /// The byte with the contacts of a report.
 pub(crate) fn with_report(byte: u8, report: Option<Position>) -> u8
     ensures { result ≡ report_put byte report }
 {
-    let (plus, minus) = contacts_of(report);
-    with_bit(with_bit(byte, PLUS_CONTACT, plus), MINUS_CONTACT, minus)
+    with_position(byte, PLUS_CONTACT, MINUS_CONTACT, report)
 }
 
 /// The byte with its element blocked or not.
@@ -99,12 +88,11 @@ pub(crate) fn with_lamp(byte: u8, burning: bool) -> u8
 }
 
 /// The byte with an order in its order bits.
+#[tactic(auto, using(crate::proofs::Decoded::order_shown))]
 fn with_order(byte: u8, position: Position) -> u8
     ensures { result ≡ order_put byte position }
 {
-    let code = order_code(position);
-    let low_written = with_bit(byte, ORDER_LOW, has_bit(code, 0));
-    with_bit(low_written, ORDER_HIGH, has_bit(code, 1))
+    with_position(byte, ORDER_LOW, ORDER_HIGH, Some(position))
 }
 
 /// The byte after an order: the contacts are opened unless they report what was ordered.

@@ -3,7 +3,7 @@
 ghost use Rattle.std.specs.Prelude.{◌≡◌};
 ghost use Rattle.field.specs.Meaning.{device_of, report_of, blocked_of, burning_of, order_of, occupied_of, ordered, told_report, told_block, told_lamp, told_occupation};
 ghost use Rattle.contacts.specs.Bytes.{report_put, block_put, lamp_put, byte_ordered};
-ghost use Rattle.contacts.specs.Picture.{picture_meaning, device_read, report_read, blocked_read, burning_read, order_read, occupied_read, with_byte, with_section};
+ghost use Rattle.contacts.specs.Picture.{byte_of, picture_meaning, device_read, report_read, blocked_read, burning_read, order_read, occupied_read, with_byte, with_section};
 ghost use Rattle.contacts.specs.Sized.{length-devices, length-sections};
 
 use crate::byte::{device_in, ordered_byte, with_block, with_lamp, with_report};
@@ -38,6 +38,7 @@ impl ContactPicture {
     }
 
     /// The device that the byte of an element says; the unknown one where there is none.
+    #[tactic(auto, using(crate::proofs::Pictures::device_at))]
     fn device(&self, element: u8) -> Device
         ensures meaning { result ≡ device_of (picture_meaning self.now) element }
         ensures bits { result ≡ device_read self.now.bytes element }
@@ -46,6 +47,18 @@ impl ContactPicture {
             device_in(self.bytes[element as usize])
         } else {
             unknown_device()
+        }
+    }
+
+    /// Changes the byte of an element, if there is one.
+    fn change<F: FnOnce(u8) -> u8>(&mut self, element: u8, change: F)
+        requires { F.IsAlwaysCallable change }
+        ensures { (byte : _) × F.post change (byte_of self.old.bytes element) byte × (self.new.bytes ≡ with_byte self.old.bytes element (λ _. byte)) }
+    {
+        let place = element as usize;
+        let byte = change(self.bytes.get(place).copied().unwrap_or(0));
+        if element < 96 {
+            self.bytes[place] = byte;
         }
     }
 }
@@ -83,6 +96,7 @@ impl Field for ContactPicture {
         self.device(element).order
     }
 
+    #[tactic(auto, using(crate::proofs::Pictures::section_at))]
     fn is_occupied(&self, section: u8) -> bool
         ensures meaning { result ≡ occupied_of (picture_meaning self.now) section }
         ensures bits { result ≡ occupied_read self.now.bytes section }
@@ -94,42 +108,39 @@ impl Field for ContactPicture {
         }
     }
 
+    #[tactic(auto, using(crate::proofs::Pictures::order_written))]
     fn order(&mut self, element: u8, position: Position)
         ensures meaning { picture_meaning self.new ≡ ordered (picture_meaning self.old) element position }
         ensures bytes { self.new.bytes ≡ with_byte self.old.bytes element (λ b. byte_ordered b position) }
     {
-        if element < 96 {
-            self.bytes[element as usize] = ordered_byte(self.bytes[element as usize], position);
-        }
+        self.change(element, |byte| ordered_byte(byte, position));
     }
 
+    #[tactic(auto, using(crate::proofs::Pictures::report_written))]
     fn tell_report(&mut self, element: u8, report: Option<Position>)
         ensures meaning { picture_meaning self.new ≡ told_report (picture_meaning self.old) element report }
         ensures bytes { self.new.bytes ≡ with_byte self.old.bytes element (λ b. report_put b report) }
     {
-        if element < 96 {
-            self.bytes[element as usize] = with_report(self.bytes[element as usize], report);
-        }
+        self.change(element, |byte| with_report(byte, report));
     }
 
+    #[tactic(auto, using(crate::proofs::Pictures::block_written))]
     fn tell_block(&mut self, element: u8, blocked: bool)
         ensures meaning { picture_meaning self.new ≡ told_block (picture_meaning self.old) element blocked }
         ensures bytes { self.new.bytes ≡ with_byte self.old.bytes element (λ b. block_put b blocked) }
     {
-        if element < 96 {
-            self.bytes[element as usize] = with_block(self.bytes[element as usize], blocked);
-        }
+        self.change(element, |byte| with_block(byte, blocked));
     }
 
+    #[tactic(auto, using(crate::proofs::Pictures::lamp_written))]
     fn tell_lamp(&mut self, element: u8, burning: bool)
         ensures meaning { picture_meaning self.new ≡ told_lamp (picture_meaning self.old) element burning }
         ensures bytes { self.new.bytes ≡ with_byte self.old.bytes element (λ b. lamp_put b burning) }
     {
-        if element < 96 {
-            self.bytes[element as usize] = with_lamp(self.bytes[element as usize], burning);
-        }
+        self.change(element, |byte| with_lamp(byte, burning));
     }
 
+    #[tactic(auto, using(crate::proofs::Pictures::section_written))]
     fn tell_occupation(&mut self, section: u8, occupied: bool)
         ensures meaning { picture_meaning self.new ≡ told_occupation (picture_meaning self.old) section occupied }
         ensures bytes { self.new.bytes ≡ with_section self.old.bytes section occupied }

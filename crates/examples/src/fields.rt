@@ -4,15 +4,7 @@ use contacts::picture::ContactPicture;
 use field::field::Field;
 use layout::position::Position;
 use tablefield::table::TableField;
-
-/// Whether two fields answer alike at a number.
-fn alike<F: Field, G: Field>(one: &F, other: &G, number: u8) -> bool {
-    one.report(number) == other.report(number)
-        && one.is_blocked(number) == other.is_blocked(number)
-        && one.is_burning(number) == other.is_burning(number)
-        && one.standing_order(number) == other.standing_order(number)
-        && one.is_occupied(number) == other.is_occupied(number)
-}
+use viewing::alike::alike;
 
 /// Orders and news, at numbers in the ranges and past them.
 fn send<F: Field>(field: &mut F, number: u8) {

@@ -7,17 +7,15 @@ ghost use Rattle.examples.specs.Worked.{WorkedExamples};
 
 use faults::fault::Fault;
 use flank::answers::{Branch, Request};
-use layout::position::Position;
 use plan::plan::Plan;
 use std::io;
+use viewing::listing::print_listed;
 use worked_plans::plans;
 
 /// The worked examples hold of the definitions.
-pub fn examples_hold() -> bool
+pub fn examples_hold()
     ensures { WorkedExamples }
-{
-    true
-}
+{}
 
 fn show(rt: &HostRuntime, what: &str, answer: Result<(), Fault>) -> io::Result<()> {
     match answer {
@@ -28,22 +26,10 @@ fn show(rt: &HostRuntime, what: &str, answer: Result<(), Fault>) -> io::Result<(
 
 /// Prints what route 0 requests, and its open branches.
 fn list_flanks(rt: &HostRuntime, plan: &Plan) -> io::Result<()> {
-    let request = Request {
-        element: 0,
-        position: Position::Plus,
-    };
-    let mut requests = [request; 8];
-    let mut branches = [Branch { from: 0, last: 0 }; 8];
-    if let Ok((request_count, branch_count)) = plan.flanks(0, &mut requests, &mut branches) {
-        println!(rt; "{request_count} requests, {branch_count} open branches")?;
-        for request in requests.iter().take(request_count) {
-            println!(rt; "  {request}")?;
-        }
-        for branch in branches.iter().take(branch_count) {
-            println!(rt; "  {branch}")?;
-        }
-    }
-    Ok(())
+    let mut requests = [Request::default(); 8];
+    let mut branches = [Branch::default(); 8];
+    let counts = plan.flanks(0, &mut requests, &mut branches);
+    print_listed(rt, counts, &requests, &branches)
 }
 
 fn show_flanks(rt: &HostRuntime, what: &str, bytes: &[u8]) -> io::Result<()> {
@@ -121,8 +107,9 @@ fn flanks(rt: &HostRuntime) -> io::Result<()> {
 }
 
 fn main(rt: HostRuntime) -> io::Result<()> {
-    let stated = examples_hold();
-    println!(rt; "stated of the definitions: {stated}")?;
+    // It is proved, or this program would not be built.
+    examples_hold();
+    println!(rt; "stated of the definitions: true")?;
     readings(&rt)?;
     flanks(&rt)?;
     let differing = fields::differing();

@@ -6,7 +6,7 @@ ghost use Rattle.field.specs.Devices.{blank, unknown};
 use layout::position::Position;
 
 /// All that a field means for one element.
-#[derive(Clone, Copy, PartialEq, Eq)]
+#[derive(Clone, Copy, PartialEq, Eq, Default)]
 pub struct Device {
     /// The position in which the element is proved to lie; none is no control.
     pub report: Option<Position>,
@@ -21,12 +21,7 @@ pub struct Device {
 pub fn blank_device() -> Device
     ensures { result ≡ blank }
 {
-    Device {
-        report: None,
-        blocked: false,
-        burning: false,
-        order: None,
-    }
+    Device::default()
 }
 
 /// What is answered of an element that is not there.

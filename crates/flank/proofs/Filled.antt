@@ -1,5 +1,5 @@
 -- Answers added to a list that is filled, some after others.
-use Rattle.std.proofs.Common.{◌≡◌, ℕ, ◌+◌, true, false, List, [], ◌∷◌, ◌++◌, length, map, get_or, sym, refl, ap, ◌∙◌, add-zero, arith, length-append}
+use Rattle.std.proofs.Common.{◌≡◌, ℕ, ◌+◌, ◌*◌, ◌≤◌, List, [], ◌++◌, length, map, get_or, sym, refl, ap, ◌∙◌, add-zero, arith, length-append}
 use lib.ListN.{length-map}
 use Rattle.std.proofs.lemmas.List.{map-append}
 use Rattle.layout.specs.declared.element.Element.{Element}
@@ -9,9 +9,9 @@ use Rattle.flank.specs.declared.answers.Mark.{Mark}
 use Rattle.flank.specs.declared.answers.Request.{Request}
 use Rattle.flank.specs.declared.filling.Filling.{Filling}
 use Rattle.flank.specs.Search.{unmarked}
-use Rattle.flank.specs.Protection.{branch, requests_at, requests_in, branches_in, marks_of, branches_below, put_at}
+use Rattle.flank.specs.Protection.{requests_at, requests_in, branch_at, branches_in, marks_of, branches_below, put_at}
 use Rattle.flank.specs.Fillings.{Adds, AddsMade}
-use Rattle.flank.proofs.Lists.{put_append, requests_more, branches_open, branches_shut, below_more}
+use Rattle.flank.proofs.Lists.{put_append, requests_more, requests_few, branches_more, below_none, below_more}
 
 module _ {A : Type 0} where
   pub adds_none : (f : Filling A) → Adds f [] f
@@ -35,19 +35,22 @@ module _ {A : Type 0} (answer_to : Request → A) where
   made_more f g h ps qs a b = rw (map-append answer_to ps qs) (adds_more f g h (map answer_to ps) (map answer_to qs) a b)
 
 -- one place more of a table
-module _ (u : ℕ) (t : List Mark) (f g : Filling Branch) (k : ℕ) where
-  pub open_more : (h : Filling Branch) → (get_or t k unmarked).open_end ≡ true
-      → Adds f (branches_in u t k) g → Adds g (branch u k ∷ []) h → Adds f (branches_in u t (k + 1)) h
-  open_more h e a b = rw (branches_open u t k e) (adds_more f g h (branches_in u t k) (branch u k ∷ []) a b)
+pub branches_added : (u : ℕ) (t : List Mark) (f g h : Filling Branch) (k : ℕ)
+    → Adds f (branches_in u t k) g → Adds g (branch_at u k (get_or t k unmarked)) h → Adds f (branches_in u t (k + 1)) h
+branches_added u t f g h k a b = rw (branches_more u t k) (adds_more f g h (branches_in u t k) (branch_at u k (get_or t k unmarked)) a b)
 
-  pub shut_more : (get_or t k unmarked).open_end ≡ false → Adds f (branches_in u t k) g → Adds f (branches_in u t (k + 1)) g
-  shut_more e a = rw (branches_shut u t k e) a
+module _ {A : Type 0} (answer_to : Request → A) (t : List Mark) (f g : Filling A) (k : ℕ) where
+  pub requests_made_more : (h : Filling A) → AddsMade answer_to f (requests_in t k) g → AddsMade answer_to g (requests_at k (get_or t k unmarked)) h
+      → AddsMade answer_to f (requests_in t (k + 1)) h
+  requests_made_more h a b = rw (requests_more t k) (made_more answer_to f g h (requests_in t k) (requests_at k (get_or t k unmarked)) a b)
 
-module _ {A : Type 0} (answer_to : Request → A) (t : List Mark) (f g h : Filling A) (k : ℕ) where
-  pub requests_made_more : AddsMade answer_to f (requests_in t k) g → AddsMade answer_to g (requests_at k (get_or t k unmarked)) h → AddsMade answer_to f (requests_in t (k + 1)) h
-  requests_made_more a b = rw (requests_more t k) (made_more answer_to f g h (requests_in t k) (requests_at k (get_or t k unmarked)) a b)
+  pub requests_count : AddsMade answer_to f (requests_in t k) g → g.count ≤ f.count + 2 * k
+  requests_count a = omega (arith, made_length answer_to f g (requests_in t k) a, requests_few t k)
 
--- the branches of one flank more
-pub below_added : (es : List Element) (r : Route) (t : List Mark) (f g h : Filling Branch) (k : ℕ) → t ≡ marks_of es r k
-    → Adds f (branches_below es r k) g → Adds g (branches_in k t 96) h → Adds f (branches_below es r (k + 1)) h
-below_added es r t f g h k e a b = rw (below_more es r k) (adds_more f g h (branches_below es r k) (branches_in k (marks_of es r k) 96) a (rw e at b))
+-- the branches of no flank, and of one more
+pub none_added : (es : List Element) (r : Route) (f : Filling Branch) → Adds f (branches_below es r 0) f
+none_added es r f = rw (below_none es r) (adds_none f)
+
+pub below_added : (es : List Element) (r : Route) (t : List Mark) (f g h : Filling Branch) (k : ℕ)
+    → Adds f (branches_below es r k) g → Adds g (branches_in k t 96) h → t ≡ marks_of es r k → Adds f (branches_below es r (k + 1)) h
+below_added es r t f g h k a b e = rw (below_more es r k) (adds_more f g h (branches_below es r k) (branches_in k (marks_of es r k) 96) a (rw e at b))

@@ -2,4 +2,3 @@ pub mod Turns
 pub mod Marking
 pub mod Lists
 pub mod Filled
-pub mod Rows

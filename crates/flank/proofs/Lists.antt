@@ -1,7 +1,7 @@
 -- Answers written into the first places of a list, one table place after another.
-use Rattle.std.proofs.Common.{◌≡◌, ℕ, zero, suc, ◌+◌, ◌*◌, ◌<◌, ◌≤◌, Bool, true, false, cond, List, [], ◌∷◌, ◌++◌, length, get_or, set, sym, refl, ap, ◌∙◌, append_assoc, append-nil, add-zero, add-one, arith, length-append, drop-cons}
+use Rattle.std.proofs.Common.{◌≡◌, ℕ, zero, suc, ◌+◌, ◌*◌, ◌<◌, ◌≤◌, Bool, cond, List, [], ◌∷◌, ◌++◌, length, map, get_or, set, sym, refl, ap, ◌∙◌, append_assoc, append-nil, add-zero, add-one, arith, length-append, drop-cons}
+use lib.ListN.{length-map}
 use Rattle.std.proofs.Math.Seq.{set-append_seam}
-use Rattle.std.proofs.lemmas.Bool.{and_from, le-leb}
 use Rattle.layout.specs.declared.element.Element.{Element}
 use Rattle.layout.specs.declared.position.Position.TheVariants as position
 use Rattle.layout.specs.declared.route.Route.{Route}
@@ -9,7 +9,7 @@ use Rattle.flank.specs.declared.answers.Mark.{Mark}
 use Rattle.flank.specs.declared.answers.Request.{Request}
 use Rattle.flank.specs.declared.answers.Branch.{Branch}
 use Rattle.flank.specs.Search.{unmarked}
-use Rattle.flank.specs.Protection.{request, branch, requests_at, requests_in, branch_at, branches_in, marks_of, branches_below, requests_of, branches_of, filled, put_at, have_room, list_filled}
+use Rattle.flank.specs.Protection.{request, branch, requests_at, requests_in, branch_at, branches_in, marks_of, branches_below, filled, put_at}
 
 module _ {A : Type 0} where
   pub put_append : (xs ys list : List A) (n : ℕ) → put_at (xs ++ ys) n list ≡ put_at ys (n + length xs) (put_at xs n list)
@@ -34,6 +34,9 @@ module _ {A : Type 0} where
   pub put_filled : (xs list : List A) → length xs ≤ length list → put_at xs 0 list ≡ filled xs list
   put_filled xs list h = put_after xs [] list (omega arith)
 
+pub put_made : {A B : Type 0} (answer_to : A → B) (xs : List A) (list : List B) → length xs ≤ length list → put_at (map answer_to xs) 0 list ≡ filled (map answer_to xs) list
+put_made answer_to xs list h = put_filled (map answer_to xs) list (omega (arith, length-map xs answer_to))
+
 pub requests_none : (t : List Mark) → requests_in t 0 ≡ []
 unfolding requests_in
 requests_none t = refl
@@ -57,12 +60,6 @@ pub branches_more : (u : ℕ) (t : List Mark) (k : ℕ) → branches_in u t (k +
 unfolding branches_in
 branches_more u t k = rw add-one
 
-pub branches_open : (u : ℕ) (t : List Mark) (k : ℕ) → (get_or t k unmarked).open_end ≡ true → branches_in u t (k + 1) ≡ branches_in u t k ++ branch u k ∷ []
-branches_open u t k e = branches_more u t k ∙ rw e
-
-pub branches_shut : (u : ℕ) (t : List Mark) (k : ℕ) → (get_or t k unmarked).open_end ≡ false → branches_in u t (k + 1) ≡ branches_in u t k
-branches_shut u t k e = branches_more u t k ∙ rw e (append-nil (branches_in u t k))
-
 at_most_one : (b : Bool) (q : Branch) → length (cond b (q ∷ []) []) ≤ 1
 at_most_one b q = grind arith
 
@@ -81,12 +78,3 @@ below_more es r k = rw add-one
 pub below_few : (es : List Element) (r : Route) (k : ℕ) → length (branches_below es r k) ≤ 96 * k
 below_few es r zero = rw (below_none es r) (omega arith)
 below_few es r (suc k) = rw (← (add-one k), below_more es r k, length-append) (omega (arith, branches_few k (marks_of es r k) 96, below_few es r k))
-
--- a list is filled where both lists have room
-pub listed : {A B : Type 0} (es : List Element) (r : Route) (list : List A) (branches : List Branch)
-    → length (requests_of es r) ≤ length list → length (branches_of es r) ≤ length branches
-    → (answers before after : List B) → length answers ≤ length before → after ≡ put_at answers 0 before
-    → after ≡ list_filled (have_room es r list branches) answers before
-listed es r list branches h k answers before after l e =
-    let room : have_room es r list branches ≡ true = and_from _ _ (le-leb _ _ h) (le-leb _ _ k) in
-    rw room (e ∙ put_filled answers before l)

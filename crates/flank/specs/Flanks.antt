@@ -1,6 +1,6 @@
 -- The flanks of a route, as the search finds them.
 use Rattle.std.specs.Prelude.{ℕ, ◌-◌, Bool, true, false, cond, ◌||◌, List, [], ◌∷◌, length, Some, None, Option, ◌==◌}
-use Rattle.std.specs.Option.{option_or}
+use Rattle.std.specs.Option.{option_or, option_map, option_map_or}
 use Rattle.layout.specs.declared.element.Element.{Element}
 use Rattle.layout.specs.declared.element.Join.{Join}
 use Rattle.layout.specs.declared.position.Position.{Position}
@@ -15,8 +15,7 @@ use Rattle.flank.specs.declared.flanks.Flank.{Flank}
 
 -- Whether a join leads to the element e.
 abbrev pub leads_to : Option Join → ℕ → Bool
-leads_to None e = false
-leads_to (Some far) e = far.element == e
+leads_to join e = option_map_or (λ far. far.element == e) join false
 
 -- The leg of a point that a way from one neighbour to another does not use.
 abbrev pub free_leg : List Element → ℕ → ℕ → ℕ → Position
@@ -38,24 +37,17 @@ path_spare c = path_reach c - 1
 
 -- The flank with a leg, if there is one.
 abbrev pub with_spare : Option Position → ℕ → Option Flank
-with_spare None spare = None
-with_spare (Some leg) spare = Some (record { leg = leg; spare = spare })
-
--- A flank inside the path of a route of a class, and one inside an overlap, out of which a walk may pass no point that counts.
-abbrev pub path_flank : Option Position → RouteClass → Option Flank
-path_flank leg c = with_spare leg (path_spare c)
-
-abbrev pub overlap_flank : Option Position → Option Flank
-overlap_flank leg = with_spare leg 0
+with_spare leg spare = option_map (λ l. record { leg = l; spare = spare }) leg
 
 -- The flank of the element e, where it is a point inside the path, or inside the overlap beyond the path's last element.
+-- A walk out of an overlap ends open at the first point that counts.
 unfoldable pub flank_over : List Element → RouteClass → List ℕ → List ℕ → ℕ → Option Flank
 flank_over es c [] overlap e = None
 flank_over es c (first ∷ rest) overlap e =
     elim (is_point (at es e).kind) [
       | true ↦
-          option_or (path_flank (flank_in es first rest e) c)
-          (overlap_flank (flank_in es (place (first ∷ rest) (length (first ∷ rest) - 1)) overlap e))
+          option_or (with_spare (flank_in es first rest e) (path_spare c))
+          (with_spare (flank_in es (place (first ∷ rest) (length (first ∷ rest) - 1)) overlap e) 0)
       | false ↦ None
     ]
 

@@ -93,19 +93,12 @@ counts_listed es r list branches =
 abbrev pub list_filled : {A : Type 0} → Bool → List A → List A → List A
 list_filled room answers list = cond room (filled answers list) list
 
--- Whether there is room, and the two numbers, where the answers are the requests themselves.
-abbrev pub fits : List Element → Route → List Request → List Branch → Bool
-fits es r requests branches = have_room es r requests branches
-
-abbrev pub counts_told : List Element → Route → List Request → List Branch → Option (ℕ × ℕ)
-counts_told es r requests branches = counts_listed es r requests branches
-
--- The lists of the caller afterwards: filled, or as they were where one is too short.
+-- The lists of the caller afterwards, where the answers are the requests themselves: filled, or as they were where one is too short.
 abbrev pub requests_told : List Element → Route → List Request → List Branch → List Request
-requests_told es r requests branches = list_filled (fits es r requests branches) (requests_of es r) requests
+requests_told es r requests branches = list_filled (have_room es r requests branches) (requests_of es r) requests
 
 abbrev pub branches_told : List Element → Route → List Request → List Branch → List Branch
-branches_told es r requests branches = list_filled (fits es r requests branches) (branches_of es r) branches
+branches_told es r requests branches = list_filled (have_room es r requests branches) (branches_of es r) branches
 
 -- A list with some answers written into it from the place n on, as far as it has room.
 abbrev pub put_at : {A : Type 0} → List A → ℕ → List A → List A

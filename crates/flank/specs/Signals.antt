@@ -1,5 +1,6 @@
 -- Passing signals, as the search does it.
-use Rattle.std.specs.Prelude.{ℕ, zero, suc, ◌-◌, Bool, true, false, not, ◌&&◌, ◌||◌, List, Some, None, Option, ◌==◌}
+use Rattle.std.specs.Prelude.{ℕ, zero, suc, ◌-◌, Bool, true, false, not, ◌&&◌, ◌||◌, List, Option, ◌==◌}
+use Rattle.std.specs.Option.{unwrap_or, option_map_or}
 use Rattle.layout.specs.declared.element.Element.{Element}
 use Rattle.layout.specs.declared.element.Join.{Join}
 use Rattle.layout.specs.declared.kind.Marks.{Marks}
@@ -8,12 +9,8 @@ use Rattle.layout.specs.Ports.{at, joined}
 use Rattle.layout.specs.Ways.{port}
 
 -- The port that a port is joined to; itself where it has no join.
-abbrev pub or_itself : Option Join → Join → Join
-or_itself None q = q
-or_itself (Some far) q = far
-
 abbrev pub far_end : List Element → Join → Join
-far_end es q = or_itself (joined es q.element q.port) q
+far_end es q = unwrap_or (joined es q.element q.port) q
 
 -- A signal's other port.
 abbrev pub across : Join → Join
@@ -25,8 +22,7 @@ onward es q = far_end es (across q)
 
 -- Whether the marks of a signal say that it is requested at flanks.
 abbrev pub is_requested : Option Marks → Bool
-is_requested None = false
-is_requested (Some m) = m.requested
+is_requested marks = option_map_or (λ m. m.requested) marks false
 
 -- A signal is able to shield where it is marked as requested and met at its front.
 abbrev pub is_able_signal : Element → ℕ → Bool

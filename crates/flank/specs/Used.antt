@@ -1,14 +1,11 @@
 -- The table of the elements that a route uses.
-use Rattle.std.specs.Prelude.{ℕ, ◌-◌, Bool, true, false, cond, List, [], ◌∷◌, length, take, drop, replicate, slice_set}
+use Rattle.std.specs.Prelude.{ℕ, Bool, true, false, cond, List, [], ◌∷◌, replicate, slice_set}
 use Rattle.layout.specs.declared.element.Element.{Element}
 use Rattle.layout.specs.declared.route.Route.{Route}
 use Rattle.layout.specs.Kinds.{is_sectioned}
 use Rattle.layout.specs.Ports.{at}
+use Rattle.layout.specs.Ways.{inner}
 use Rattle.layout.specs.Uses.{path_of, overlap_of}
-
--- The elements strictly between the first and the last of a path.
-abbrev pub inner : List ℕ → List ℕ
-inner path = take (length path - 1 - 1) (drop 1 path)
 
 -- The table with one element more, if that lies in a section.
 abbrev pub with_one : List Element → ℕ → List Bool → List Bool

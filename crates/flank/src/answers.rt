@@ -4,14 +4,14 @@ use layout::position::Position;
 use std::fmt;
 
 /// An element, and the position in which a route requests it to shield a flank.
-#[derive(Clone, Copy, PartialEq, Eq)]
+#[derive(Clone, Copy, PartialEq, Eq, Default)]
 pub struct Request {
     pub element: u8,
     pub position: Position,
 }
 
 /// A used point, and the last point of a walk out of its flank that ends open.
-#[derive(Clone, Copy, PartialEq, Eq)]
+#[derive(Clone, Copy, PartialEq, Eq, Default)]
 pub struct Branch {
     pub from: u8,
     pub last: u8,

@@ -1,7 +1,7 @@
 //! The flanks of a route.
 
 ghost use Rattle.std.specs.Prelude.{◌≡◌};
-ghost use Rattle.flank.specs.Flanks.{leads_to, free_leg, flank_in, path_spare, with_spare, path_flank, overlap_flank, flank_of};
+ghost use Rattle.flank.specs.Flanks.{leads_to, free_leg, flank_in, path_spare, flank_of};
 
 use layout::element::{Element, Join};
 use layout::ports::element_at;
@@ -59,27 +59,6 @@ fn path_spare(class: RouteClass) -> u8
     }
 }
 
-/// The flank with a leg, if there is one.
-fn with_spare(leg: Option<Position>, spare: u8) -> Option<Flank>
-    ensures { result ≡ with_spare leg spare }
-{
-    leg.map(|leg| Flank { leg, spare })
-}
-
-/// A flank inside the path of a route of a class.
-fn path_flank(leg: Option<Position>, class: RouteClass) -> Option<Flank>
-    ensures { result ≡ path_flank leg class }
-{
-    with_spare(leg, path_spare(class))
-}
-
-/// A flank inside an overlap, out of which a walk ends open at the first point that counts.
-fn overlap_flank(leg: Option<Position>) -> Option<Flank>
-    ensures { result ≡ overlap_flank leg }
-{
-    with_spare(leg, 0)
-}
-
 /// The flank of an element, where it is a point that the route uses.
 #[tactic(auto, unfolding(crate::specs::Flanks::flank_over))]
 pub fn flank_of(elements: &[Element], route: &Route, number: u8) -> Option<Flank>
@@ -91,7 +70,14 @@ pub fn flank_of(elements: &[Element], route: &Route, number: u8) -> Option<Flank
     if !element_at(elements, number as usize).kind.is_point() {
         return None;
     }
-    let in_path = flank_in(elements, *first, way, number);
-    let in_overlap = flank_in(elements, *last, route.overlap_elements(), number);
-    path_flank(in_path, route.class).or(overlap_flank(in_overlap))
+    let spare = path_spare(route.class);
+    flank_in(elements, *first, way, number)
+        .map(|leg| Flank { leg, spare })
+        .or_else(|| {
+            // A walk out of an overlap ends open at the first point that counts.
+            flank_in(elements, *last, route.overlap_elements(), number).map(|leg| Flank {
+                leg,
+                spare: 0,
+            })
+        })
 }

@@ -9,21 +9,6 @@ use crate::answers::{Branch, Mark, Request};
 use crate::filling::Filling;
 use layout::position::Position;
 
-/// Adds the answer to a request, if its element is asked for it.
-fn add_asked<A: Answering>(
-    is_asked: bool,
-    request: Request,
-    answering: &A,
-    filling: &mut Filling<A::Answer>,
-)
-    requires { filling.old.count < usize.MAX }
-    ensures { AddsMade (A.answer_to answering.now) filling.old (cond is_asked (request ∷ []) []) filling.new }
-{
-    if is_asked {
-        filling.add(answering.answer(request));
-    }
-}
-
 /// Adds the answers to the requests of one element.
 #[tactic(auto, using(crate::proofs::Filled::made_more))]
 fn add_requests<A: Answering>(
@@ -35,15 +20,14 @@ fn add_requests<A: Answering>(
     requires { filling.old.count < 100000 }
     ensures { AddsMade (A.answer_to answering.now) filling.old (requests_at element mark) filling.new }
 {
-    let position = Position::Plus;
-    add_asked(mark.plus, Request { element, position }, answering, filling);
-    let position = Position::Minus;
-    add_asked(
-        mark.minus,
-        Request { element, position },
-        answering,
-        filling,
-    );
+    if mark.plus {
+        let position = Position::Plus;
+        filling.add(answering.answer(Request { element, position }));
+    }
+    if mark.minus {
+        let position = Position::Minus;
+        filling.add(answering.answer(Request { element, position }));
+    }
 }
 
 /// Writes the answers to the requests of a table into the first places of a list, as far as it has room, and gives their number.
@@ -57,8 +41,8 @@ pub(crate) fn list_requests<A: Answering>(
     ensures list { list.new ≡ put_at (map (A.answer_to answering.now) (requests_in marked.now 96)) 0 list.old }
 {
     let mut filling = Filling::of(list);
-    for (element, mark) in (0..96u8).zip(marked) {
-        add_requests(element, *mark, answering, &mut filling);
+    for (element, mark) in marked.iter().enumerate() {
+        add_requests(element as u8, *mark, answering, &mut filling);
     }
     filling.count()
 }
@@ -70,10 +54,9 @@ impl Filling<'_, Branch> {
         requires { self.old.count < 100000 }
         ensures { Adds self.old (branches_in from marked.now 96) self.new }
     {
-        for (last, mark) in (0..96u8).zip(marked) {
-            if mark.open_end {
-                self.add(Branch { from, last });
-            }
+        for (last, mark) in marked.iter().enumerate() {
+            let last = last as u8;
+            self.add_if(mark.open_end, Branch { from, last });
         }
     }
 }

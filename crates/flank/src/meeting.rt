@@ -51,10 +51,7 @@ impl Search<'_> {
     fn meet_leg(&self, met: Join) -> Meeting
         ensures { result ≡ meets_leg self.now.elements.now self.now.used met }
     {
-        let toe = Join {
-            element: met.element,
-            port: 0,
-        };
+        let toe = Join { port: 0, ..met };
         let beyond = pass_signals(self.elements, far_end(self.elements, toe), true);
         if self.is_used(beyond.element) {
             return Meeting::Ends;

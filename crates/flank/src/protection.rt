@@ -3,7 +3,7 @@
 ghost use Rattle.std.specs.Prelude.{◌≡◌, length, map};
 ghost use Rattle.flank.specs.Used.{used_table};
 ghost use Rattle.flank.specs.Flanks.{flank_of};
-ghost use Rattle.flank.specs.Protection.{flank_marks, no_marks, route_marks, requests_of, branches_of, put_at, have_room, counts_listed, list_filled, counts_told, requests_told, branches_told};
+ghost use Rattle.flank.specs.Protection.{flank_marks, no_marks, route_marks, marks_of, requests_of, branches_of, put_at, have_room, counts_listed, list_filled, requests_told, branches_told};
 
 use crate::answering::{Answering, AsRequested};
 use crate::answers::{Branch, Mark, Request};
@@ -33,39 +33,60 @@ impl Search<'_> {
             self.walk(from, flank.spare, marked);
         }
     }
+
+    /// The table of what the route requests, and of where its walks end open, by element.
+    #[tactic(auto, using(crate::proofs::Turns::marks_none, crate::proofs::Turns::no_marks_length, crate::proofs::Turns::marks_more))]
+    fn shields(&self) -> [Mark; 96]
+        ensures { result ≡ route_marks self.now.elements.now self.now.route.now }
+    {
+        let mut marked = no_marks();
+        for number in 0..96u8 {
+            self.mark_flank(number, &mut marked);
+        }
+        marked
+    }
+
+    /// The table of what the walks out of the flank of one element find.
+    fn marks_of(&self, element: u8) -> [Mark; 96]
+        ensures { result ≡ marks_of self.now.elements.now self.now.route.now element }
+    {
+        let mut marked = no_marks();
+        self.mark_flank(element, &mut marked);
+        marked
+    }
+
+    /// Writes the open branches of the route into the first places of a list, as far as it has room, and gives their number.
+    #[tactic(auto, using(crate::proofs::Filled::none_added, crate::proofs::Lists::below_few))]
+    fn list_branches(&self, list: &mut [Branch]) -> usize
+        ensures count { result ≡ length (branches_of self.now.elements.now self.now.route.now) }
+        ensures list { list.new ≡ put_at (branches_of self.now.elements.now self.now.route.now) 0 list.old }
+    {
+        let mut filling = Filling::of(list);
+        for point in 0..96u8 {
+            filling.add_open(point, &self.marks_of(point));
+        }
+        filling.count()
+    }
 }
 
 /// The table of what a route requests, and of where its walks end open, by element.
-#[tactic(auto, using(crate::proofs::Turns::marks_none, crate::proofs::Turns::no_marks_length, crate::proofs::Turns::marks_more))]
 pub fn shields(elements: &[Element], route: &Route) -> [Mark; 96]
     ensures { result ≡ route_marks elements.now route.now }
 {
-    let search = Search::of(elements, route);
-    let mut marked = no_marks();
-    for number in 0..96u8 {
-        search.mark_flank(number, &mut marked);
-    }
-    marked
+    Search::of(elements, route).shields()
 }
 
 /// Writes the open branches of a route into the first places of a list, as far as it has room, and gives their number.
-#[tactic(auto, using(crate::proofs::Lists::below_none, crate::proofs::Lists::below_few, crate::proofs::Filled::adds_none, crate::proofs::Filled::below_added))]
 pub fn list_branches(elements: &[Element], route: &Route, list: &mut [Branch]) -> usize
     ensures count { result ≡ length (branches_of elements.now route.now) }
     ensures list { list.new ≡ put_at (branches_of elements.now route.now) 0 list.old }
 {
-    let search = Search::of(elements, route);
-    let mut filling = Filling::of(list);
-    for point in 0..96u8 {
-        let mut marked = no_marks();
-        search.mark_flank(point, &mut marked);
-        filling.add_open(point, &marked);
-    }
-    filling.count()
+    Search::of(elements, route).list_branches(list)
 }
 
 /// Fills two lists with the answer to each request of a route, by element, and with its open branches, by used point and last point; gives the two numbers.
 /// Where either list is too short, both stay as they are and there is no answer.
+#[tactic(auto, using(crate::proofs::Lists::put_filled, crate::proofs::Lists::put_made))]
 pub fn list_protection<A: Answering>(
     elements: &[Element],
     route: &Route,
@@ -77,15 +98,16 @@ pub fn list_protection<A: Answering>(
     ensures requests { requests.new ≡ list_filled (have_room elements.now route.now requests.old branches.old) (map (A.answer_to answering.now) (requests_of elements.now route.now)) requests.old }
     ensures branches { branches.new ≡ list_filled (have_room elements.now route.now requests.old branches.old) (branches_of elements.now route.now) branches.old }
 {
-    let marked = shields(elements, route);
+    let search = Search::of(elements, route);
+    let marked = search.shields();
     // Listing into no place at all counts.
     let request_count = list_requests(&marked, answering, &mut []);
-    let branch_count = list_branches(elements, route, &mut []);
+    let branch_count = search.list_branches(&mut []);
     if request_count > requests.len() || branch_count > branches.len() {
         return None;
     }
     list_requests(&marked, answering, requests);
-    list_branches(elements, route, branches);
+    search.list_branches(branches);
     Some((request_count, branch_count))
 }
 
@@ -97,7 +119,7 @@ pub fn protection(
     requests: &mut [Request],
     branches: &mut [Branch],
 ) -> Option<(usize, usize)>
-    ensures counts { result ≡ counts_told elements.now route.now requests.old branches.old }
+    ensures counts { result ≡ counts_listed elements.now route.now requests.old branches.old }
     ensures requests { requests.new ≡ requests_told elements.now route.now requests.old branches.old }
     ensures branches { branches.new ≡ branches_told elements.now route.now requests.old branches.old }
 {

@@ -15,7 +15,7 @@ use layout::route::Route;
 use tables::table::at_or;
 
 /// A drawing and a route over it, with the table of the elements that the route uses.
-#[derive(Clone, Copy)]
+#[derive(Drop)]
 pub(crate) struct Search<'a> {
     pub(crate) elements: &'a [Element],
     pub(crate) route: &'a Route,

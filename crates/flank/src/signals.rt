@@ -64,13 +64,8 @@ pub(crate) fn pass_signals(elements: &[Element], from: Join, able_too: bool) -> 
         if !is_passed(elements, met, able_too) {
             return met;
         }
-        met = far_end(
-            elements,
-            Join {
-                element: met.element,
-                port: 1u8.saturating_sub(met.port),
-            },
-        );
+        let port = 1u8.saturating_sub(met.port);
+        met = far_end(elements, Join { port, ..met });
     }
     met
 }

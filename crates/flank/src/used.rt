@@ -1,22 +1,13 @@
 //! The elements that a route uses.
 
 ghost use Rattle.std.specs.Prelude.{◌≡◌};
-ghost use Rattle.flank.specs.Used.{inner, with_one, with_used, used_table};
+ghost use Rattle.flank.specs.Used.{with_one, with_used, used_table};
 
 use layout::element::Element;
 use layout::ports::element_at;
 use layout::route::Route;
+use layout::ways::inner;
 use tables::table::put;
-
-/// The elements strictly between the first and the last of a path.
-pub fn inner(path: &[u8]) -> &[u8]
-    ensures { result.now ≡ inner path.now }
-{
-    match path {
-        [_, inner @ .., _] => inner,
-        _ => &[],
-    }
-}
 
 /// Adds an element to the table of used elements, if it lies in a section.
 fn use_one(elements: &[Element], number: u8, used: &mut [bool])

@@ -17,6 +17,10 @@ module _ (i : Interlocking) (r : ℕ) where
   taken_out_states zero = refl
   taken_out_states (suc n) = taken_out_states n
 
+  pub left_none : (taken_out i r 0).holds ≡ i.holds
+  unfolding taken_out
+  left_none = refl
+
   pub left_more : (n : ℕ) (holds : List Hold) (d : Hold) → holds ≡ (taken_out i r n).holds
       → set holds n (left_by (get_or holds n d) r) ≡ (taken_out i r (n + 1)).holds
   unfolding taken_out

@@ -1,5 +1,6 @@
 -- When two positions are one, and when a report is of a position.
-use Rattle.std.specs.Prelude.{Bool, true, false, Some, None, Option}
+use Rattle.std.specs.Prelude.{Bool, true, false, Some, Option}
+use Rattle.std.specs.Option.{option_eq}
 use Rattle.layout.specs.declared.position.Position.{Position}
 use Rattle.layout.specs.declared.position.Position.TheVariants as position
 
@@ -11,8 +12,4 @@ same position.Minus position.Minus = true
 
 -- A report is of a position; no control is of none.
 abbrev pub reports : Option Position → Position → Bool
-reports None p = false
-reports (Some position.Plus) position.Plus = true
-reports (Some position.Plus) position.Minus = false
-reports (Some position.Minus) position.Plus = false
-reports (Some position.Minus) position.Minus = true
+reports report p = option_eq same report (Some p)

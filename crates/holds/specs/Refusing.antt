@@ -1,12 +1,13 @@
 -- When a route may be set.
-use Rattle.std.specs.Prelude.{ℕ, Bool, true, false, cond, not, ◌&&◌, ◌||◌, Some, None, Option, ◌==◌}
+use Rattle.std.specs.Prelude.{ℕ, Bool, true, cond, not, ◌&&◌, ◌||◌, Some, None, Option, nat_eq}
+use Rattle.std.specs.Option.{option_eq}
 use Rattle.layout.specs.declared.position.Position.{Position}
 use Rattle.layout.specs.Every.{every}
 use Rattle.refusals.specs.declared.refusal.Refusal.{Refusal}
 use Rattle.refusals.specs.declared.refusal.Refusal.TheVariants as refusal
 use Rattle.sheets.specs.declared.sheet.RouteSheet.{RouteSheet}
 use Rattle.sheets.specs.declared.sheet.Sheets.{Sheets}
-use Rattle.sheets.specs.Lists.{all_of}
+use Rattle.std.specs.List.{list_all}
 use Rattle.sheets.specs.Reading.{route_count, route_sheet, need_of, on_path, uses, wanted_by, used_by}
 use Rattle.holds.specs.declared.hold.Hold.{Hold}
 use Rattle.holds.specs.declared.interlocking.Interlocking.{Interlocking}
@@ -14,13 +15,9 @@ use Rattle.holds.specs.Holds.{open_to}
 use Rattle.holds.specs.States.{stands}
 use Rattle.holds.specs.Interlockings.{hold_of, state_of}
 
-abbrev pub is_number : Option ℕ → ℕ → Bool
-is_number None e = false
-is_number (Some k) e = k == e
-
 -- The second route begins at the last signal of the first, and the first does not have the section in its path.
 abbrev pub excuses : RouteSheet → RouteSheet → ℕ → Bool
-excuses a b x = is_number a.last_signal b.first && not (on_path a x)
+excuses a b x = option_eq nat_eq a.last_signal (Some b.first) && not (on_path a x)
 
 -- A section that the first route uses clashes with the second: the second uses it too, and neither excuses it.
 abbrev pub clashes : RouteSheet → RouteSheet → ℕ → Bool
@@ -31,14 +28,14 @@ clear_of a b x = not (clashes a b x)
 
 -- No section of the first route clashes with the second.
 abbrev pub apart : RouteSheet → RouteSheet → Bool
-apart a b = all_of (clear_of a b) (used_by a)
+apart a b = list_all (clear_of a b) (used_by a)
 
--- The route q does not stand, or no section clashes with it.
-abbrev pub admits : Sheets → RouteSheet → Interlocking → ℕ → Bool
-admits t s i q = not (stands (state_of i q)) || apart s (route_sheet t q)
+-- Another route, with its number and its sheet, does not stand, or no section clashes with it.
+abbrev pub admits : RouteSheet → Interlocking → ℕ → RouteSheet → Bool
+admits s i q other = not (stands (state_of i q)) || apart s other
 
 unfoldable pub all_admit : Sheets → RouteSheet → Interlocking → Bool
-all_admit t s i = every (admits t s i) (route_count t) 0
+all_admit t s i = every (λ q. admits s i q (route_sheet t q)) (route_count t) 0
 
 -- An element may be held as it is needed.
 abbrev pub fits_hold : Hold → Option Position → Bool
@@ -49,7 +46,7 @@ abbrev pub fits : RouteSheet → Interlocking → ℕ → Bool
 fits s i e = fits_hold (hold_of i e) (need_of s e)
 
 abbrev pub all_fit : RouteSheet → Interlocking → Bool
-all_fit s i = all_of (fits s i) (wanted_by s)
+all_fit s i = list_all (fits s i) (wanted_by s)
 
 -- Why a route of the plan may not be set: it stands already; a section that it uses is used by a standing route, with no excuse;
 -- an element that it needs is held in the other position. The first that applies is the answer.

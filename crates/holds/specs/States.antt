@@ -1,5 +1,5 @@
 -- The states of a route and how they change.
-use Rattle.std.specs.Prelude.{ℕ, Bool, true, false, cond, ◌&&◌, ◌==◌}
+use Rattle.std.specs.Prelude.{ℕ, Bool, true, false, cond, ◌&&◌, List, ◌==◌, codes}
 use Rattle.holds.specs.declared.state.RouteState.{RouteState}
 use Rattle.holds.specs.declared.state.RouteState.TheVariants as state
 
@@ -9,6 +9,13 @@ state_number state.Absent = 0
 state_number state.Waiting = 1
 state_number state.Clear = 2
 state_number state.Dropped = 3
+
+-- The word for each state.
+abbrev pub state_word : RouteState → List ℕ
+state_word state.Absent = codes "absent"
+state_word state.Waiting = codes "waiting"
+state_word state.Clear = codes "clear"
+state_word state.Dropped = codes "dropped"
 
 -- All but absent stand.
 abbrev pub stands : RouteState → Bool

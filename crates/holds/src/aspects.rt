@@ -9,6 +9,7 @@ use sheets::sheet::Sheets;
 
 impl Interlocking {
     /// What a signal shows: that of a clear route that begins there, else stop.
+    #[tactic(auto, using(crate::proofs::AspectTurn::aspect_upto_none, crate::proofs::AspectTurn::aspect_upto_more))]
     pub fn aspect(&self, sheets: &Sheets, signal: u8) -> Aspect
         ensures { result ≡ aspect_of sheets.now self.now signal }
     {

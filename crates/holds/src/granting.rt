@@ -9,17 +9,16 @@ use crate::interlocking::Interlocking;
 use crate::state::RouteState;
 use layout::position::Position;
 use sheets::sheet::RouteSheet;
+use tables::table::put;
 
 impl Interlocking {
     /// The route joins the hold of an element, in a position.
     fn join(&mut self, route: usize, element: u8, position: Position)
         ensures { self.new ≡ joined_by self.old route element position }
     {
-        let place = element as usize;
-        // By its place, since what is written through `get_mut` is not known afterwards.
-        if place < self.holds.len() {
-            self.holds[place].grant(route, position);
-        }
+        let mut hold = self.hold(element);
+        hold.grant(route, position);
+        put(&mut self.holds, element as usize, hold);
     }
 
     /// The route joins the holds of the elements that it wants, one after another, each in the position that a choice gives, if any.
@@ -60,6 +59,7 @@ impl Interlocking {
     }
 
     /// The route leaves the holds of all elements.
+    #[tactic(auto, using(crate::proofs::Leaving::left_none, crate::proofs::Leaving::left_more, crate::proofs::Leaving::left_all))]
     fn leave_all(&mut self, route: usize)
         ensures { self.new ≡ taken_out self.old route 96 }
     {

@@ -1,7 +1,7 @@
 //! When a route may be set, and when it may be cleared.
 
 ghost use Rattle.std.specs.Prelude.{◌≡◌};
-ghost use Rattle.refusals.specs.Numbers.{refusal_in};
+ghost use Rattle.std.specs.Result.{result_err};
 ghost use Rattle.holds.specs.Refusing.{excuses, clashes, apart, admits, all_admit, fits, all_fit, set_refusal, clear_refusal};
 
 use crate::interlocking::Interlocking;
@@ -36,15 +36,22 @@ fn are_apart(first: &RouteSheet, second: &RouteSheet) -> bool
 }
 
 impl Interlocking {
+    /// Whether another route does not stand, or no section clashes with it.
+    fn admits(&self, sheet: &RouteSheet, route: usize, other: &RouteSheet) -> bool
+        ensures { result ≡ admits sheet.now self.now route other.now }
+    {
+        !self.state(route).stands() || are_apart(sheet, other)
+    }
+
     /// Whether no standing route uses a section of the route with no excuse.
     fn all_admit(&self, sheets: &Sheets, sheet: &RouteSheet) -> bool
         ensures { result ≡ all_admit sheets.now sheet.now self.now }
     {
         let routes = sheets.routes.as_slice();
-        routes.iter().enumerate().all(|(route, other)| {
-            let stands = self.state(route).stands();
-            !stands || are_apart(sheet, other)
-        })
+        routes
+            .iter()
+            .enumerate()
+            .all(|(route, other)| self.admits(sheet, route, other))
     }
 
     /// Whether an element may be held as the route needs it.
@@ -68,7 +75,7 @@ impl Interlocking {
 
     /// Whether a route of the plan may be set, and if not, why.
     pub fn may_set(&self, sheets: &Sheets, sheet: &RouteSheet, route: usize) -> Result<(), Refusal>
-        ensures { refusal_in result ≡ set_refusal sheets.now sheet.now route self.now }
+        ensures { result_err result ≡ set_refusal sheets.now sheet.now route self.now }
     {
         if self.state(route).stands() {
             Err(Refusal::StandsAlready)
@@ -83,7 +90,7 @@ impl Interlocking {
 
     /// Whether a route of the plan may be cleared, and if not, why.
     pub fn may_clear(&self, route: usize) -> Result<(), Refusal>
-        ensures { refusal_in result ≡ clear_refusal route self.now }
+        ensures { result_err result ≡ clear_refusal route self.now }
     {
         if self.state(route).stands() {
             Ok(())

@@ -38,6 +38,7 @@ impl RouteSet {
         put(&mut self.members, route, false);
     }
 
+    #[tactic(auto, using(crate::proofs::SetTests::none_holds))]
     pub(crate) fn is_empty(&self) -> bool
         ensures { result ≡ is_empty self.now }
     {

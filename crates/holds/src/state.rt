@@ -1,7 +1,7 @@
 //! The states of a route.
 
 ghost use Rattle.std.specs.Prelude.{◌≡◌};
-ghost use Rattle.holds.specs.States.{state_number, stands, is_waiting, is_clear, moved, falls, rises, waits_again};
+ghost use Rattle.holds.specs.States.{state_number, state_word, stands, is_waiting, is_clear, moved, falls, rises, waits_again};
 
 use std::fmt;
 
@@ -24,6 +24,18 @@ impl RouteState {
         ensures { result ≡ state_number self }
     {
         self as u8
+    }
+
+    /// The word for the state.
+    fn word(self) -> &'static str
+        ensures { result.now ≡ state_word self }
+    {
+        match self {
+            RouteState::Absent => "absent",
+            RouteState::Waiting => "waiting",
+            RouteState::Clear => "clear",
+            RouteState::Dropped => "dropped",
+        }
     }
 
     /// Whether the route stands: all but absent do.
@@ -75,12 +87,11 @@ impl RouteState {
 }
 
 impl fmt::Display for RouteState {
+    ghost use Rattle.std.specs.Prelude.{Some};
+
+    ghost output = { λ state. Some (state_word state) };
+
     fn fmt<W: fmt::Write>(&self, f: &mut fmt::Formatter<W>) -> fmt::Result {
-        f.write_str(match self {
-            RouteState::Absent => "absent",
-            RouteState::Waiting => "waiting",
-            RouteState::Clear => "clear",
-            RouteState::Dropped => "dropped",
-        })
+        f.write_str(self.word())
     }
 }

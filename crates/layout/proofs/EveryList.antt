@@ -1,8 +1,8 @@
 -- A test of the numbers in a row that reads a list at each number is a test of the items of the list.
-use Rattle.std.proofs.Common.{◌≡◌, ℕ, zero, suc, ◌+◌, ◌<◌, ◌≤◌, Bool, true, false, not, ◌&&◌, ◌||◌, List, [], ◌∷◌, length, take, drop, get_or, refl, ap, subst, ◌∙◌, arith}
+use Rattle.std.proofs.Common.{◌≡◌, ℕ, zero, suc, ◌+◌, ◌<◌, ◌≤◌, Bool, ◌&&◌, List, [], ◌∷◌, length, take, drop, get_or, refl, ap, subst, ◌∙◌, arith}
 use Rattle.std.proofs.lemmas.List.{drop_more}
 use Rattle.std.proofs.Math.Seq.{take-length}
-use Rattle.std.specs.List.{list_all, list_any, enumerate_from, range_with_len}
+use Rattle.std.specs.List.{list_all, enumerate_from}
 use Rattle.layout.specs.Every.{every}
 
 -- the numbers from i on read n items
@@ -31,31 +31,3 @@ module _ {X : Type 0} (test : ℕ × X → Bool) (passes : ℕ → Bool) where
   pub all_places : (xs : List X) (d : X) → ((k : ℕ) → k < length xs → test (k, get_or xs k d) ≡ passes k)
       → list_all test (enumerate_from 0 xs) ≡ every passes (length xs) 0
   all_places xs d each = all_from xs d 0 (λ k h. subst (λ (n : ℕ). test (n, get_or xs k d) ≡ passes n) (omega arith) (each k h))
-
--- the numbers one further on
-pub every_next : (test : ℕ → Bool) (n i : ℕ) → every (λ k. test (k + 1)) n i ≡ every test n (i + 1)
-every_next test zero i = refl
-every_next test (suc n) i = ap (λ b. test (i + 1) && b) (every_next test n (i + 1))
-
-not_or : (a b : Bool) → not (a || b) ≡ not a && not b
-not_or true b = refl
-not_or false b = refl
-
--- no item passes
-pub not_any : {X : Type 0} (test : X → Bool) (xs : List X) → not (list_any test xs) ≡ list_all (λ x. not (test x)) xs
-not_any test [] = refl
-not_any test (x ∷ xs) = not_or (test x) (list_any test xs) ∙ ap (λ b. not (test x) && b) (not_any test xs)
-
-not_and : (a b : Bool) → a || not b ≡ not (not a && b)
-not_and true b = refl
-not_and false b = refl
-
--- some item passes
-pub any_not : {X : Type 0} (test : X → Bool) (xs : List X) → list_any test xs ≡ not (list_all (λ x. not (test x)) xs)
-any_not test [] = refl
-any_not test (x ∷ xs) = ap (λ b. test x || b) (any_not test xs) ∙ not_and (test x) (list_all (λ y. not (test y)) xs)
-
--- the numbers themselves
-pub every_number : (test : ℕ → Bool) (n i : ℕ) → every test n i ≡ list_all test (range_with_len i n)
-every_number test zero i = refl
-every_number test (suc n) i = ap (λ b. test i && b) (every_number test n (i + 1))

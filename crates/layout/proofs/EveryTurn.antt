@@ -1,6 +1,6 @@
 -- What a test of numbers in a row says of each number.
 use Rattle.std.proofs.Common.{◌≡◌, ℕ, zero, suc, ◌+◌, ◌<◌, ◌≤◌, Bool, true, false, refl, ap, ◌∙◌, inl, inr, arith}
-use Rattle.std.proofs.lemmas.Bool.{and_parts, and_from, and_cases, cases_eq, true≢false}
+use Rattle.std.proofs.lemmas.Bool.{and_parts, and_from, and_cases, cases_eq}
 use Rattle.layout.specs.Every.{every}
 
 -- every number passes
@@ -18,7 +18,7 @@ every_from test (suc n) i h =
 
 -- some number does not pass
 pub every_not : (test : ℕ → Bool) (n i : ℕ) → every test n i ≡ false → (j : ℕ) × (i ≤ j) × (j < i + n) × (test j ≡ false)
-every_not test zero i e = absurd (true≢false e)
+every_not test zero i e = cc
 every_not test (suc n) i e =
     elim (and_cases (test i) (every test n (i + 1)) e) [
       | inl here ↦ (i, omega arith, omega arith, here)

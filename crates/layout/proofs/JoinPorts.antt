@@ -1,12 +1,10 @@
--- Small facts on joins: nothing is not something, ports below three, and a joined port is one of them.
-use Rattle.std.proofs.Common.{◌≡◌, ℕ, zero, suc, ◌<◌, false, ltb, ◌⊎◌, List, Some, None, Option, refl, inl, inr, arith}
+-- Ports below three, and a joined port is one of them.
+use Rattle.std.proofs.Common.{◌≡◌, ℕ, zero, suc, ◌<◌, false, ltb, ◌⊎◌, List, Some, refl, inl, inr, arith}
 use Rattle.std.proofs.lemmas.Bool.{le-ltb, cases_lt}
+use Rattle.std.proofs.lemmas.Option.{none-some}
 use Rattle.layout.specs.declared.element.Element.{Element}
 use Rattle.layout.specs.declared.element.Join.{Join}
 use Rattle.layout.specs.Ports.{joined}
-
-pub some_apart : {X : Type 0} {x : X} → ◌≡◌ {A = Option X} None (Some x) → ⊥
-some_apart e = let z : ◌≡◌ {A = ℕ} 0 1 = cc in omega arith
 
 pub low_cases : (n : ℕ) → n < 3 → (n ≡ 0) ⊎ ((n ≡ 1) ⊎ (n ≡ 2))
 low_cases zero h = inl refl
@@ -18,5 +16,5 @@ low_cases (suc (suc (suc n))) h = absurd (omega arith)
 pub joined_low : (es : List Element) (e p : ℕ) (j : Join) → joined es e p ≡ Some j → p < 3
 joined_low es e p j h = elim (cases_lt p 3) [
   | inl l ↦ l
-  | inr g ↦ let t : ltb p 3 ≡ false = le-ltb p 3 g in absurd (some_apart (rw t at h))
+  | inr g ↦ let t : ltb p 3 ≡ false = le-ltb p 3 g in absurd (none-some j (rw t at h))
 ]

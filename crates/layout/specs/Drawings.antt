@@ -22,7 +22,3 @@ no_drawing = record { elements = empty_of no_element; routes = empty_of no_route
 -- One element more, with the next number.
 abbrev pub with_element : Drawing → Element → Drawing
 with_element d e = record { elements = pushed d.elements e; routes = d.routes }
-
--- One route more, with the next number.
-abbrev pub with_route : Drawing → Route → Drawing
-with_route d r = record { elements = d.elements; routes = pushed d.routes r }

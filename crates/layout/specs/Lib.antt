@@ -1,6 +1,7 @@
 pub mod Numbers
 pub mod Kinds
 pub mod Drawings
+pub mod Positions
 pub mod Ports
 pub mod Every
 pub mod Ways

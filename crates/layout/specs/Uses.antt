@@ -1,5 +1,6 @@
 -- What a route uses, how it passes what it uses, and its flanks, in the words of the subject.
-use Rattle.std.specs.Prelude.{◌≡◌, ℕ, suc, ◌-◌, ◌<◌, true, ◌⊎◌, List, [], ◌∷◌, length, Some, None, Option}
+use Rattle.std.specs.Prelude.{◌≡◌, ℕ, suc, ◌-◌, ◌<◌, true, ◌⊎◌, List, [], ◌∷◌, length, Some, Option}
+use Rattle.std.specs.Option.{option_map_or}
 use Rattle.bounded.specs.declared.bounded.Bounded.{Bounded}
 use Rattle.bounded.specs.Lists.{listed}
 use Rattle.layout.specs.declared.element.Element.{Element}
@@ -13,9 +14,9 @@ use Rattle.layout.specs.Kinds.{is_sectioned}
 use Rattle.layout.specs.Ports.{at, joined}
 use Rattle.layout.specs.Ways.{place, port}
 
+-- The numbers of a list in order, none where there is no list.
 abbrev pub numbers : {N : ℕ} → Option (Bounded ℕ N) → List ℕ
-numbers None = []
-numbers (Some ns) = listed ns
+numbers list = option_map_or listed list []
 
 -- The elements of a route's path, and of its overlap; none where it has no such field.
 abbrev pub path_of : Route → List ℕ

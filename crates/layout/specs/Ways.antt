@@ -1,5 +1,5 @@
 -- How a way over elements runs, in the words of the subject.
-use Rattle.std.specs.Prelude.{◌≡◌, ℕ, suc, ◌<◌, ◌≢◌, ◌⊎◌, List, length, Some, slice_index}
+use Rattle.std.specs.Prelude.{◌≡◌, ℕ, suc, ◌-◌, ◌<◌, ◌≢◌, ◌⊎◌, List, length, take, drop, Some, slice_index}
 use Rattle.layout.specs.declared.element.Element.{Element}
 use Rattle.layout.specs.declared.element.Join.{Join}
 use Rattle.layout.specs.declared.kind.Kind.{Kind}
@@ -13,6 +13,10 @@ port e p = record { element = e; port = p }
 -- The element at a place of a way, places counted from 0.
 abbrev pub place : List ℕ → ℕ → ℕ
 place way k = slice_index way k
+
+-- The elements strictly between the first and the last of a way.
+abbrev pub inner : List ℕ → List ℕ
+inner way = take (length way - 1 - 1) (drop 1 way)
 
 -- The kind of the element at a place of a way.
 abbrev pub kind_at : List Element → List ℕ → ℕ → Kind

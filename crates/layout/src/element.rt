@@ -9,8 +9,8 @@ pub struct Join {
     pub port: u8,
 }
 
-/// An element: its kind, what its ports are joined to, and the fields that its kind has.
-#[derive(Clone, Copy)]
+/// An element: its kind, what its ports are joined to, and the fields that its kind has. The default has no field.
+#[derive(Clone, Copy, Default)]
 pub struct Element {
     pub kind: Kind,
     pub joins: [Option<Join>; 3],

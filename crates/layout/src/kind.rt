@@ -5,9 +5,10 @@ ghost use Rattle.layout.specs.Numbers.{kind_of, dual_of, sort_of, marks_of};
 ghost use Rattle.layout.specs.Kinds.{ports, is_sectioned, is_point, is_signal};
 
 /// What an element is.
-#[derive(Clone, Copy, PartialEq, Eq)]
+#[derive(Clone, Copy, PartialEq, Eq, Default)]
 pub enum Kind {
     /// A section without points, or a parking line.
+    #[default]
     Track,
     Point,
     Derailer,

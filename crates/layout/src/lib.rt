@@ -7,3 +7,4 @@ pub mod kind;
 pub mod ports;
 pub mod position;
 pub mod route;
+pub mod ways;

@@ -3,14 +3,13 @@
 ghost use Rattle.std.specs.Prelude.{◌≡◌};
 ghost use Rattle.layout.specs.Ports.{at, join_of};
 
-use crate::drawing::blank_element;
 use crate::element::{Element, Join};
 
 /// The element with a number, one with no field where there is none.
 pub fn element_at(elements: &[Element], number: usize) -> Element
     ensures { result ≡ at elements.now number }
 {
-    elements.get(number).copied().unwrap_or(blank_element())
+    elements.get(number).copied().unwrap_or_default()
 }
 
 impl Element {

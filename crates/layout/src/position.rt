@@ -3,13 +3,15 @@
 ghost use Rattle.std.specs.Prelude.{◌≡◌};
 ghost use Rattle.std.specs.Result.{result_ok};
 ghost use Rattle.layout.specs.Numbers.{position_number, position_with};
+ghost use Rattle.layout.specs.Positions.{other};
 
 use std::error::Error;
 use std::fmt;
 
 /// Plus for a point, on for a derailer, kept at stop for a signal; or minus, off, in use as a start.
-#[derive(Clone, Copy, PartialEq, Eq)]
+#[derive(Clone, Copy, PartialEq, Eq, Default)]
 pub enum Position {
+    #[default]
     Plus = 0,
     Minus = 1,
 }
@@ -20,6 +22,16 @@ impl Position {
         ensures { result ≡ position_number self }
     {
         self as u8
+    }
+
+    /// The other position.
+    pub fn other(self) -> Position
+        ensures { result ≡ other self }
+    {
+        match self {
+            Position::Plus => Position::Minus,
+            Position::Minus => Position::Plus,
+        }
     }
 }
 

@@ -7,8 +7,9 @@ ghost use Rattle.layout.specs.Uses.{numbers, path_of, overlap_of};
 use bounded::bounded::Bounded;
 
 /// What a route is for.
-#[derive(Clone, Copy, PartialEq, Eq)]
+#[derive(Clone, Copy, PartialEq, Eq, Default)]
 pub enum RouteClass {
+    #[default]
     Shunting,
     Train,
 }
@@ -25,8 +26,8 @@ impl From<u8> for RouteClass {
     }
 }
 
-/// A route: its class, the elements of its path and of its overlap, and whether it has a zero overlap.
-#[derive(Clone, Copy)]
+/// A route: its class, the elements of its path and of its overlap, and whether it has a zero overlap. The default has no field.
+#[derive(Clone, Copy, Default)]
 pub struct Route {
     pub class: RouteClass,
     pub path: Option<Bounded<u8, 24>>,
@@ -38,10 +39,7 @@ pub struct Route {
 fn numbers<const N: usize>(list: &Option<Bounded<u8, N>>) -> &[u8]
     ensures { result.now ≡ numbers list.now }
 {
-    match list {
-        Some(list) => list.as_slice(),
-        None => &[],
-    }
+    list.as_ref().map_or(&[], Bounded::as_slice)
 }
 
 impl Route {

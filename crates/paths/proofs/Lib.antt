@@ -1,3 +1,4 @@
+mod FirstFound
 mod StepsExact
 mod PlacesExact
 pub mod PathsExact

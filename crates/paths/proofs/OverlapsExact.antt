@@ -1,6 +1,6 @@
 -- The test of a route's overlap passes exactly the allowed ones.
 use Rattle.std.proofs.Common.{◌≡◌, ℕ, zero, suc, ◌<◌, Bool, true, false, not, ◌&&◌, ◌||◌, ltb, ◌≢◌, List, ◌∷◌, length, is_some, Some, None, Option, sym, refl, ap, ◌∙◌, subst, inl, inr, arith}
-use Rattle.std.proofs.lemmas.Bool.{and_parts, and_from, not-true, not_from_false, both_ways, cases_Bool, ltb-true, lt-ltb, true≢false}
+use Rattle.std.proofs.lemmas.Bool.{and_parts, and_from, not-true, not_from_false, both_ways, cases_Bool, ltb-true, lt-ltb}
 use Rattle.bounded.specs.declared.bounded.Bounded.{Bounded}
 use Rattle.bounded.specs.Lists.{listed}
 use Rattle.layout.specs.declared.element.Element.{Element}
@@ -14,6 +14,7 @@ use Rattle.layout.specs.Ports.{at}
 use Rattle.layout.specs.Sound.{SoundElements}
 use Rattle.layout.specs.Ways.{place, kind_at}
 use Rattle.layout.proofs.KindTests.{point_test, signal_test}
+use Rattle.layout.proofs.Values.{some_of}
 use Rattle.paths.specs.Following.{follows}
 use Rattle.paths.specs.Places.{are_within, are_new}
 use Rattle.paths.specs.Overlaps.{is_overlap, is_beyond, is_train, is_overlap_allowed}
@@ -27,10 +28,6 @@ no_point k t e = both_ways (is_point k) (not-true _ t) (rw e)
 
 no_point_from : (k : Kind) → k ≢ kind.Point → not (is_point k) ≡ true
 no_point_from k n = elim (cases_Bool (is_point k)) [ inl t ↦ absurd (n (point_test k t)) | inr f ↦ not_from_false _ f ]
-
-some_of : (o : Option ℕ) → is_some o ≡ true → (p : ℕ) × (o ≡ Some p)
-some_of None e = absurd (true≢false (sym e))
-some_of (Some p) e = (p, refl)
 
 overlap_sound : (es : List Element) (path overlap : List ℕ) → is_overlap es path overlap ≡ true → SoundOverlap es path overlap
 overlap_sound es path overlap e =
@@ -93,7 +90,7 @@ none_sound es r true o z t = zero_overlap (train_test r.class t) o z
 some_sound : (es : List Element) (r : Route) (path : Option (Bounded ℕ 24)) (overlap : Bounded ℕ 8) → r.path ≡ path → r.overlap ≡ Some overlap
     → (is_train r.class && (not r.zero_overlap && is_beyond es path overlap)) ≡ true → AllowedOverlap es r
 some_sound es r None overlap p o t =
-    let a = and_parts (is_train r.class) _ t in let b = and_parts (not r.zero_overlap) _ a.1 in absurd (true≢false (sym b.1))
+    let a = and_parts (is_train r.class) _ t in let b = and_parts (not r.zero_overlap) _ a.1 in cc
 some_sound es r (Some path) overlap p o t =
     let a = and_parts (is_train r.class) _ t in
     let b = and_parts (not r.zero_overlap) _ a.1 in

@@ -1,6 +1,7 @@
 -- The test of a route's path passes exactly the sound paths.
 use Rattle.std.proofs.Common.{◌≡◌, ℕ, zero, suc, ◌-◌, ◌<◌, true, false, not, ◌&&◌, ltb, ◌⊎◌, List, [], ◌∷◌, length, get_or, Some, None, Option, sym, refl, ap, ◌∙◌, inl, inr, arith}
-use Rattle.std.proofs.lemmas.Bool.{and_parts, and_from, eqb-true, eq-eqb, ltb-true, lt-ltb, cases_eq, cases_lt, true≢false}
+use Rattle.std.proofs.lemmas.Bool.{and_parts, and_from, eqb-true, eq-eqb, ltb-true, lt-ltb, cases_eq, cases_lt}
+use Rattle.std.specs.Option.{option_map_or}
 use Rattle.bounded.specs.declared.bounded.Bounded.{Bounded}
 use Rattle.bounded.specs.Lists.{listed}
 use Rattle.layout.specs.declared.element.Element.{Element}
@@ -19,7 +20,7 @@ use Rattle.layout.specs.Ways.{place, port, kind_at, Runs}
 use Rattle.layout.proofs.KindTests.{signal_test}
 use Rattle.paths.specs.Following.{turns, follows}
 use Rattle.paths.specs.Places.{are_within, are_new, are_signals_between}
-use Rattle.paths.specs.Paths.{may_start, is_start, may_end, is_end_at, is_end, is_path, has_path}
+use Rattle.paths.specs.Paths.{may_start, is_start, may_end, is_end, is_path, has_path}
 use Rattle.paths.specs.Sound.{Starts, train_from_train, train_from_entry, shunting_from_shunting, shunting_from_train, last, SoundPath, HasSoundPath}
 use Rattle.paths.proofs.StepsExact.{turns_sound, turns_from, Followed, follows_sound, follows_from}
 use Rattle.paths.proofs.PlacesExact.{within_sound, within_from, new_once, new_from, body_sound, body_from}
@@ -28,7 +29,7 @@ use Rattle.paths.proofs.PlacesExact.{within_sound, within_from, new_once, new_fr
 pub joined_port : (es : List Element) → SoundElements es → (e p : ℕ) (j : Join) → e < length es → joined es e p ≡ Some j → p < ports (at es e).kind
 joined_port es sound e p j h o = elim (cases_lt p (ports (at es e).kind)) [
   | inl l ↦ l
-  | inr g ↦ let z : ◌≡◌ {A = Option Join} None (Some j) = sym ((sound.fields e h).no_other p g) ∙ o in absurd (let w : ◌≡◌ {A = ℕ} 0 1 = cc in omega arith)
+  | inr g ↦ let none = (sound.fields e h).no_other p g in cc
 ]
 
 -- the way that was followed runs, and leaves a signal entered at its rear by its front
@@ -71,14 +72,14 @@ followed_from es sound from (next ∷ more) r within s out some =
         (within (suc k) (omega arith)) (r.joins (suc k) (omega arith))) (r.turns (suc k) (omega arith) (omega arith))
 
 start_sound : (c : RouteClass) (s : Option Sort) → may_start c s ≡ true → (t : Sort) × (s ≡ Some t) × Starts c t
-start_sound class.Train None e = absurd (true≢false (sym e))
-start_sound class.Train (Some sort.Shunting) e = absurd (true≢false (sym e))
+start_sound class.Train None e = cc
+start_sound class.Train (Some sort.Shunting) e = cc
 start_sound class.Train (Some sort.Train) e = (sort.Train, refl, train_from_train)
 start_sound class.Train (Some sort.Entry) e = (sort.Entry, refl, train_from_entry)
-start_sound class.Shunting None e = absurd (true≢false (sym e))
+start_sound class.Shunting None e = cc
 start_sound class.Shunting (Some sort.Shunting) e = (sort.Shunting, refl, shunting_from_shunting)
 start_sound class.Shunting (Some sort.Train) e = (sort.Train, refl, shunting_from_train)
-start_sound class.Shunting (Some sort.Entry) e = absurd (true≢false (sym e))
+start_sound class.Shunting (Some sort.Entry) e = cc
 
 start_from : (c : RouteClass) (t : Sort) → Starts c t → may_start c (Some t) ≡ true
 start_from c t train_from_train = refl
@@ -93,20 +94,20 @@ Ends k entered = (k ≡ kind.Track) ⊎ ((k ≡ kind.Signal) × (entered ≡ 0))
 end_sound : (k : Kind) (entered : ℕ) → may_end k entered ≡ true → Ends k entered
 end_sound kind.Track entered e = inl refl
 end_sound kind.Signal entered e = inr (refl, eqb-true entered 0 e)
-end_sound kind.Point entered e = absurd (true≢false (sym e))
-end_sound kind.Derailer entered e = absurd (true≢false (sym e))
-end_sound kind.PlanEnd entered e = absurd (true≢false (sym e))
+end_sound kind.Point entered e = cc
+end_sound kind.Derailer entered e = cc
+end_sound kind.PlanEnd entered e = cc
 
 end_from : (k : Kind) (entered : ℕ) → Ends k entered → may_end k entered ≡ true
 end_from k entered (inl t) = rw t
 end_from k entered (inr s) = rw s.0 (eq-eqb entered 0 s.1)
 
-end_at_sound : (k : Kind) (o : Option ℕ) → is_end_at k o ≡ true → (p : ℕ) × (o ≡ Some p) × (may_end k p ≡ true)
-end_at_sound k None e = absurd (true≢false (sym e))
+end_at_sound : (k : Kind) (o : Option ℕ) → option_map_or (may_end k) o false ≡ true → (p : ℕ) × (o ≡ Some p) × (may_end k p ≡ true)
+end_at_sound k None e = cc
 end_at_sound k (Some p) e = (p, refl, e)
 
 path_sound : (es : List Element) (c : RouteClass) (path : List ℕ) → is_path es c path ≡ true → SoundPath es c path
-path_sound es c [] e = absurd (true≢false (sym e))
+path_sound es c [] e = cc
 path_sound es c (from ∷ rest) e =
     let path : List ℕ = from ∷ rest in
     let a : (ltb 2 (length path) ≡ true) × ((are_within es path && (are_new [] path && (is_start es c from && (not (are_signals_between es path) && is_end es path)))) ≡ true) = and_parts _ _ e in
@@ -129,11 +130,11 @@ path_sound es c (from ∷ rest) e =
       starts_by_sort = start_sound c (at es from).sort s.1;
       starts_forward = forward es from rest h.0 w (omega arith) (signal_test (at es from).kind s.0);
       ends = end_sound (kind_at es path (last path)) (w.enters (last path)) (ap (λ (n : ℕ). may_end (kind_at es path (last path)) n) met ∙ h.2);
-      body = body_sound es path g.0;
+      body = body_sound es path (omega arith) g.0;
     }
 
 path_from : (es : List Element) → SoundElements es → (c : RouteClass) (path : List ℕ) → SoundPath es c path → is_path es c path ≡ true
-path_from es sound c [] s = absurd (let h : suc s.body.0 < 0 = s.body.2 in let none : ⊥ = omega arith in none)
+path_from es sound c [] s = absurd (omega (arith, s.body.2))
 path_from es sound c (from ∷ rest) s =
     let path : List ℕ = from ∷ rest in
     let high : suc s.body.0 < length path = s.body.2 in
@@ -146,15 +147,15 @@ path_from es sound c (from ∷ rest) s =
     let sorted : may_start c (at es from).sort ≡ true = ap (λ (o : Option Sort). may_start c o) s.starts_by_sort.1 ∙ start_from c s.starts_by_sort.0 s.starts_by_sort.2 in
     let signal : is_signal (at es from).kind ≡ true = ap is_signal s.starts_at_signal in
     let ended : is_end es path ≡ true
-    = ap (is_end_at (kind_at es path (last path))) reached ∙ end_from (kind_at es path (last path)) (s.runs.enters (last path)) s.ends in
+    = ap (λ (o : Option ℕ). option_map_or (may_end (kind_at es path (last path))) o false) reached ∙ end_from (kind_at es path (last path)) (s.runs.enters (last path)) s.ends in
     and_from _ _ (lt-ltb 2 (length path) (omega arith))
     (and_from _ _ (within_from es path s.within)
     (and_from _ _ (new_from [] path (λ j k h. absurd (omega arith)) s.once)
     (and_from _ _ (and_from _ _ signal sorted)
     (and_from _ _ (body_from es path s.body) ended))))
 
-has_sound : (es : List Element) (r : Route) (o : Option (Bounded ℕ 24)) → r.path ≡ o → elim o [ None ↦ false | Some path ↦ is_path es r.class (listed path) ] ≡ true → HasSoundPath es r
-has_sound es r None e t = absurd (true≢false (sym t))
+has_sound : (es : List Element) (r : Route) (o : Option (Bounded ℕ 24)) → r.path ≡ o → option_map_or (λ path. is_path es r.class (listed path)) o false ≡ true → HasSoundPath es r
+has_sound es r None e t = cc
 has_sound es r (Some path) e t = record { path = path; is = e; sound = path_sound es r.class (listed path) t }
 
 has_from : (es : List Element) → SoundElements es → (r : Route) → HasSoundPath es r → has_path es r ≡ true

@@ -1,6 +1,7 @@
 -- Following a way succeeds exactly where the way runs.
 use Rattle.std.proofs.Common.{◌≡◌, ℕ, zero, suc, ◌<◌, Bool, true, false, cond, not, ◌&&◌, ◌||◌, eqb, ltb, ◌⊎◌, List, [], ◌∷◌, length, Some, None, Option, sym, refl, ap, ◌∙◌, inl, inr, arith}
-use Rattle.std.proofs.lemmas.Bool.{and_parts, and_from, or_cases, or_left, or_right, not-true, not_from_false, eqb-true, eqb-false, eq-eqb, ne_eqb, ltb-true, lt-ltb}
+use Rattle.std.proofs.lemmas.Bool.{and_parts, and_from, or_cases, or_left, or_right, not-true, not_from_false, eqb-true, eqb-false, eq-eqb, ne_eqb, ltb-true, lt-ltb, true≢false}
+use Rattle.std.specs.Option.{option_or, option_and_then}
 use Rattle.layout.specs.declared.element.Element.{Element}
 use Rattle.layout.specs.declared.element.Join.{Join}
 use Rattle.layout.specs.declared.kind.Kind.{Kind}
@@ -9,8 +10,8 @@ use Rattle.layout.specs.Kinds.{ports, is_point}
 use Rattle.layout.specs.Ports.{at, joined}
 use Rattle.layout.specs.Sound.{WellJoined}
 use Rattle.layout.specs.Ways.{port, place, Turns}
-use Rattle.layout.proofs.JoinPorts.{some_apart, low_cases, joined_low}
-use Rattle.paths.specs.Following.{turns, exit_over, exit, or_else, step, and_on, follows}
+use Rattle.layout.proofs.JoinPorts.{low_cases, joined_low}
+use Rattle.paths.specs.Following.{turns, exit_over, exit, step, follows}
 
 point_is : (k : Kind) → k ≡ kind.Point → is_point k ≡ true
 point_is k e = rw e
@@ -24,7 +25,7 @@ turns_sound k entered left t =
       (
         eqb-false left entered (not-true _ b.0),
         λ e. elim (or_cases (not (is_point k)) _ b.1) [
-          | inl n ↦ let z : ◌≡◌ {A = Bool} true false = sym (point_is k e) ∙ not-true _ n in absurd (let w : ◌≡◌ {A = ℕ} 0 1 = cc in omega arith)
+          | inl n ↦ absurd (true≢false (sym (point_is k e) ∙ not-true _ n))
           | inr o ↦ elim (or_cases (eqb entered 0) _ o) [ inl x ↦ inl (eqb-true entered 0 x) | inr y ↦ inr (eqb-true left 0 y) ]
         ],
       ),
@@ -47,11 +48,11 @@ turns_from k entered left l t =
 
 -- an exit by a port goes over that port's join, soundly
 exit_over_sound : (j : Option Join) (next : ℕ) (sound : Bool) (p : ℕ) → exit_over j next sound ≡ Some p → (j ≡ Some (port next p)) × (sound ≡ true)
-exit_over_sound None next sound p e = absurd (some_apart e)
+exit_over_sound None next sound p e = cc
 exit_over_sound (Some j) next sound p e = go (eqb j.element next && sound) refl e
   where
     go : (b : Bool) → (eqb j.element next && sound) ≡ b → cond b (Some j.port) None ≡ Some p → (Some j ≡ Some (port next p)) × (sound ≡ true)
-    go false t c = absurd (some_apart c)
+    go false t c = cc
     go true t c =
         let both : (eqb j.element next ≡ true) × (sound ≡ true) = and_parts _ _ t in
         let same : j.element ≡ next = eqb-true j.element next both.0 in
@@ -62,9 +63,9 @@ exit_over_from : (j : Option Join) (next : ℕ) (sound : Bool) (p : ℕ) → j �
 exit_over_from j next sound p e s =
     let t : (eqb next next && sound) ≡ true = and_from _ _ (eq-eqb next next refl) s in rw e (rw t)
 
-or_else_cases : (a b : Option ℕ) (p : ℕ) → or_else a b ≡ Some p → (a ≡ Some p) ⊎ (b ≡ Some p)
-or_else_cases None b p e = inr e
-or_else_cases (Some q) b p e = inl e
+option_or_cases : (a b : Option ℕ) (p : ℕ) → option_or a b ≡ Some p → (a ≡ Some p) ⊎ (b ≡ Some p)
+option_or_cases None b p e = inr e
+option_or_cases (Some q) b p e = inl e
 
 -- the next element is entered over the join of some port, soundly
 pub record Exits (es : List Element) (from entered next p : ℕ) : Type 0 where
@@ -81,8 +82,8 @@ exits_by es from entered next p left e =
 pub step_sound : (es : List Element) (from entered next p : ℕ) → step es from entered next ≡ Some p → Exits es from entered next p
 unfolding step
 step_sound es from entered next p e =
-    elim (or_else_cases (or_else (exit es from entered next 0) (exit es from entered next 1)) (exit es from entered next 2) p e) [
-      | inl f ↦ elim (or_else_cases (exit es from entered next 0) (exit es from entered next 1) p f) [
+    elim (option_or_cases (option_or (exit es from entered next 0) (exit es from entered next 1)) (exit es from entered next 2) p e) [
+      | inl f ↦ elim (option_or_cases (exit es from entered next 0) (exit es from entered next 1) p f) [
         | inl g ↦ exits_by es from entered next p 0 g
         | inr g ↦ exits_by es from entered next p 1 g
       ]
@@ -91,13 +92,13 @@ step_sound es from entered next p e =
 
 -- where each of three is nothing or p, and one is p, the first that is something is p
 either_of : (a b c : Option ℕ) (p : ℕ) → (a ≡ None) ⊎ (a ≡ Some p) → (b ≡ None) ⊎ (b ≡ Some p) → (c ≡ None) ⊎ (c ≡ Some p)
-    → (a ≡ Some p) ⊎ ((b ≡ Some p) ⊎ (c ≡ Some p)) → or_else (or_else a b) c ≡ Some p
+    → (a ≡ Some p) ⊎ ((b ≡ Some p) ⊎ (c ≡ Some p)) → option_or (option_or a b) c ≡ Some p
 either_of a b c p (inr x) y z w = rw x
 either_of a b c p (inl x) (inr y) z w = rw (x, y)
 either_of a b c p (inl x) (inl y) (inr z) w = rw (x, y, z)
-either_of a b c p (inl x) (inl y) (inl z) (inl w) = absurd (some_apart (sym x ∙ w))
-either_of a b c p (inl x) (inl y) (inl z) (inr (inl w)) = absurd (some_apart (sym y ∙ w))
-either_of a b c p (inl x) (inl y) (inl z) (inr (inr w)) = absurd (some_apart (sym z ∙ w))
+either_of a b c p (inl x) (inl y) (inl z) (inl w) = cc
+either_of a b c p (inl x) (inl y) (inl z) (inr (inl w)) = cc
+either_of a b c p (inl x) (inl y) (inl z) (inr (inr w)) = cc
 
 abbrev port_in : Option Join → Option ℕ
 port_in None = None
@@ -178,8 +179,8 @@ follows_sound es from entered [] end e =
     record { enters = λ k. entered; leaves = λ k. 0; first = refl; final = same; joins = λ k h. absurd (omega arith); turned = λ k h. absurd (omega arith) }
 follows_sound es from entered (next ∷ rest) end e = go (λ p f. follows_sound es next p rest end f) (step es from entered next) refl e
   where
-    go : ((p : ℕ) → follows es next p rest ≡ Some end → Followed es next p rest end) → (o : Option ℕ) → step es from entered next ≡ o → and_on o (λ p. follows es next p rest) ≡ Some end → Followed es from entered (next ∷ rest) end
-    go later None s f = absurd (some_apart f)
+    go : ((p : ℕ) → follows es next p rest ≡ Some end → Followed es next p rest end) → (o : Option ℕ) → step es from entered next ≡ o → option_and_then (λ p. follows es next p rest) o ≡ Some end → Followed es from entered (next ∷ rest) end
+    go later None s f = cc
     go later (Some p) s f = followed_more es from entered next p end rest (step_sound es from entered next p s) (later p f)
 
 pub follows_from : (es : List Element) → WellJoined es → (from entered : ℕ) (rest : List ℕ) (enters leaves : ℕ → ℕ)
@@ -191,6 +192,6 @@ follows_from es well from entered [] enters leaves within first joins turned = a
 follows_from es well from entered (next ∷ rest) enters leaves within first joins turned =
     let t : turns (at es from).kind entered (leaves 0) ≡ true = ap (λ (n : ℕ). turns (at es from).kind n (leaves 0)) (sym first) ∙ turned 0 (omega arith) in
     let s : step es from entered next ≡ Some (enters 1) = step_from es well from entered next (enters 1) (leaves 0) (within 0 (omega arith)) (joins 0 (omega arith)) t in
-    ap (λ (o : Option ℕ). and_on o (λ p. follows es next p rest)) s
+    ap (λ (o : Option ℕ). option_and_then (λ p. follows es next p rest) o) s
     ∙ follows_from es well next (enters 1) rest (λ k. enters (suc k)) (λ k. leaves (suc k))
     (λ k h. within (suc k) (omega arith)) refl (λ k h. joins (suc k) (omega arith)) (λ k h. turned (suc k) (omega arith))

@@ -1,5 +1,7 @@
 -- Following a way from element to element: the test.
-use Rattle.std.specs.Prelude.{ℕ, Bool, cond, not, ◌&&◌, ◌||◌, List, [], ◌∷◌, Some, None, Option, ◌==◌, nat_lt}
+use Rattle.std.specs.Prelude.{ℕ, Bool, cond, not, ◌&&◌, ◌||◌, List, [], ◌∷◌, map, Some, None, Option, ◌==◌, nat_lt}
+use Rattle.std.specs.List.{fold, range_with_len}
+use Rattle.std.specs.Option.{option_or, option_and_then}
 use Rattle.layout.specs.declared.element.Element.{Element}
 use Rattle.layout.specs.declared.element.Join.{Join}
 use Rattle.layout.specs.declared.kind.Kind.{Kind}
@@ -18,19 +20,11 @@ exit_over (Some j) next sound = cond (j.element == next && sound) (Some j.port) 
 abbrev pub exit : List Element → ℕ → ℕ → ℕ → ℕ → Option ℕ
 exit es from entered next left = exit_over (joined es from left) next (turns (at es from).kind entered left)
 
-abbrev pub or_else : Option ℕ → Option ℕ → Option ℕ
-or_else None other = other
-or_else (Some p) other = Some p
-
--- Where the next element is entered, by whichever port the way to it is.
+-- Where the next element is entered, by the first of the three ports by which the way to it is.
 unfoldable pub step : List Element → ℕ → ℕ → ℕ → Option ℕ
-step es from entered next = or_else (or_else (exit es from entered next 0) (exit es from entered next 1)) (exit es from entered next 2)
-
-abbrev pub and_on : Option ℕ → (ℕ → Option ℕ) → Option ℕ
-and_on None f = None
-and_on (Some p) f = f p
+step es from entered next = fold option_or None (map (exit es from entered next) (range_with_len 0 3))
 
 -- Where the last of some elements is entered by the way over them, from an element that was entered at a port.
 abbrev pub follows : List Element → ℕ → ℕ → List ℕ → Option ℕ
 follows es from entered [] = Some entered
-follows es from entered (next ∷ rest) = and_on (step es from entered next) (λ p. follows es next p rest)
+follows es from entered (next ∷ rest) = option_and_then (λ p. follows es next p rest) (step es from entered next)

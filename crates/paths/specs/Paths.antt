@@ -1,5 +1,6 @@
 -- Sound paths: the test.
 use Rattle.std.specs.Prelude.{ℕ, ◌-◌, Bool, true, false, not, ◌&&◌, List, [], length, drop, Some, None, Option, ◌==◌, nat_lt, slice_index}
+use Rattle.std.specs.Option.{option_map_or}
 use Rattle.bounded.specs.Lists.{listed}
 use Rattle.layout.specs.declared.element.Element.{Element}
 use Rattle.layout.specs.declared.kind.Kind.{Kind}
@@ -36,13 +37,10 @@ may_end kind.Derailer entered = false
 may_end kind.Signal entered = entered == 0
 may_end kind.PlanEnd entered = false
 
-abbrev pub is_end_at : Kind → Option ℕ → Bool
-is_end_at k None = false
-is_end_at k (Some entered) = may_end k entered
-
 -- The way can be followed from its first element, left as if it had been entered at port 0, to an element at which it may end.
 abbrev pub is_end : List Element → List ℕ → Bool
-is_end es path = is_end_at (at es (slice_index path (length path - 1))).kind (follows es (slice_index path 0) 0 (drop 1 path))
+is_end es path =
+    option_map_or (may_end (at es (slice_index path (length path - 1))).kind) (follows es (slice_index path 0) 0 (drop 1 path)) false
 
 -- Elements in a row are a sound path for a route of a class.
 abbrev pub is_path : List Element → RouteClass → List ℕ → Bool
@@ -56,4 +54,4 @@ is_path es c path =
 
 -- A route has a path, and a sound one.
 abbrev pub has_path : List Element → Route → Bool
-has_path es r = elim r.path [ None ↦ false | Some path ↦ is_path es r.class (listed path) ]
+has_path es r = option_map_or (λ path. is_path es r.class (listed path)) r.path false

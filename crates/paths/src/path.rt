@@ -45,18 +45,23 @@ fn ends_soundly(elements: &[Element], path: &[u8]) -> bool
     requires { 0 < length path.now }
     ensures { result ≡ is_end elements.now path.now }
 {
-    let last = element_at(elements, path[path.len() - 1] as usize);
-    follow(elements, path[0], &path[1..]).is_some_and(|entered| may_end(last.kind, entered))
+    let (Some((first, rest)), Some(last)) = (path.split_first(), path.last()) else {
+        return false;
+    };
+    let kind = element_at(elements, *last as usize).kind;
+    follow(elements, *first, rest).is_some_and(|entered| may_end(kind, entered))
 }
 
 /// Whether elements in a row are a sound path for a route of a class.
 fn is_sound_path(elements: &[Element], class: RouteClass, path: &[u8]) -> bool
     ensures { result ≡ is_path elements.now class path.now }
 {
-    path.len() > 2
-        && all_within(elements, path)
+    let [first, _, .., _] = path else {
+        return false;
+    };
+    all_within(elements, path)
         && all_new(&[], path)
-        && is_start(elements, class, path[0])
+        && is_start(elements, class, *first)
         && !all_signals_between(elements, path)
         && ends_soundly(elements, path)
 }

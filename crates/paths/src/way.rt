@@ -29,9 +29,7 @@ fn exit_by(elements: &[Element], entered: Join, next: u8, left: u8) -> Option<u8
 fn step_to(elements: &[Element], entered: Join, next: u8) -> Option<u8>
     ensures { result ≡ step elements.now entered.element entered.port next }
 {
-    exit_by(elements, entered, next, 0)
-        .or(exit_by(elements, entered, next, 1))
-        .or(exit_by(elements, entered, next, 2))
+    (0..3u8).find_map(|left| exit_by(elements, entered, next, left))
 }
 
 /// Where the last of some elements is entered by the way over them from a first one, which is entered at port 0.

@@ -1,6 +1,9 @@
 -- The test of an element's fields passes exactly the elements that have the fields of their kind.
-use Rattle.std.proofs.Common.{◌≡◌, ℕ, ◌<◌, ◌≤◌, Bool, true, false, not, ◌&&◌, ◌||◌, ltb, is_some, Some, None, Option, sym, refl, ap, ◌∙◌, subst, inl, inr, arith}
-use Rattle.std.proofs.lemmas.Bool.{and_parts, and_from, not-true, cases_lt, lt-ltb, le-ltb, ltb-true, true≢false}
+use Rattle.std.proofs.Common.{◌≡◌, ℕ, ◌<◌, ◌≤◌, Bool, true, false, not, ◌&&◌, ◌||◌, ltb, is_some, Some, None, Option, sym, refl, ap, ◌∙◌, inl, inr, arith}
+use Rattle.std.proofs.option.Match.{None-if_not_some}
+use Rattle.std.proofs.lemmas.Bool.{and_parts, and_from, not-true, cases_lt, lt-ltb, le-ltb, ltb-true}
+use Rattle.std.specs.Bool.{beq}
+use Rattle.std.specs.Cmp.{booleans_Decides}
 use Rattle.layout.specs.declared.element.Element.{Element}
 use Rattle.layout.specs.declared.element.Join.{Join}
 use Rattle.layout.specs.declared.kind.Kind.{Kind}
@@ -11,27 +14,11 @@ use Rattle.layout.specs.declared.kind.Marks.{Marks}
 use Rattle.layout.specs.Kinds.{ports, is_sectioned, is_point, is_signal}
 use Rattle.layout.specs.Ports.{join_of}
 use Rattle.layout.specs.Sound.{HasItsFields}
-use Rattle.layout.proofs.JoinPorts.{low_cases}
+use Rattle.layout.proofs.Values.{some_of}
+use Rattle.layout.proofs.EveryTurn.{every_each, every_from}
 use Rattle.layout.proofs.KindTests.{point_test, signal_test}
-use Rattle.plan.specs.ElementTests.{agree, are_joins_its_own, are_fields_needed, are_fields_allowed, is_section_low, has_its_fields, is_entry, is_requested, is_entry_unmarked}
-
-agree_same : (a b : Bool) → agree a b ≡ true → a ≡ b
-agree_same true true e = refl
-agree_same true false e = sym e
-agree_same false true e = e
-agree_same false false e = refl
-
-agree_from : (a b : Bool) → a ≡ b → agree a b ≡ true
-agree_from true b e = sym e
-agree_from false b e = ap not (sym e)
-
-some_of : {X : Type 0} (o : Option X) → is_some o ≡ true → (x : X) × (o ≡ Some x)
-some_of None e = absurd (true≢false (sym e))
-some_of (Some x) e = (x, refl)
-
-none_of : {X : Type 0} (o : Option X) → is_some o ≡ false → o ≡ None
-none_of None e = refl
-none_of (Some x) e = absurd (true≢false e)
+use Rattle.flank.specs.Signals.{is_requested}
+use Rattle.plan.specs.ElementTests.{is_join_its_own, are_joins_its_own, are_fields_needed, are_fields_allowed, is_section_low, has_its_fields, is_entry, is_entry_unmarked}
 
 few_ports : (k : Kind) → ports k ≤ 3
 few_ports kind.Track = omega arith
@@ -42,15 +29,7 @@ few_ports kind.PlanEnd = omega arith
 
 -- a port below three is joined exactly if the kind has it
 own_at : (e : Element) → are_joins_its_own e ≡ true → (p : ℕ) → p < 3 → is_some (join_of e p) ≡ ltb p (ports e.kind)
-own_at e t p h =
-    let a = and_parts (agree (is_some (join_of e 0)) (ltb 0 (ports e.kind))) _ t in
-    let b = and_parts (agree (is_some (join_of e 1)) (ltb 1 (ports e.kind))) _ a.1 in
-    let P : ℕ → Type 0 = λ n. is_some (join_of e n) ≡ ltb n (ports e.kind) in
-    elim (low_cases p h) [
-      | inl z ↦ subst P (sym z) (agree_same _ _ a.0)
-      | inr (inl z) ↦ subst P (sym z) (agree_same _ _ b.0)
-      | inr (inr z) ↦ subst P (sym z) (agree_same _ _ b.1)
-    ]
+own_at e t p h = (booleans_Decides _ _).0 (every_each (is_join_its_own e) 3 0 t p (omega arith) (omega (arith, h)))
 
 high_port : (e : Element) (p : ℕ) → 3 ≤ p → join_of e p ≡ None
 high_port e p h = let t : ltb p 3 ≡ false = le-ltb p 3 h in rw t
@@ -60,20 +39,20 @@ each_port e t p h = some_of (join_of e p) (own_at e t p (omega (arith, few_ports
 
 no_other : (e : Element) → are_joins_its_own e ≡ true → (p : ℕ) → ports e.kind ≤ p → join_of e p ≡ None
 no_other e t p h = elim (cases_lt p 3) [
-  | inl l ↦ none_of (join_of e p) (own_at e t p l ∙ le-ltb p (ports e.kind) h)
+  | inl l ↦ None-if_not_some (join_of e p) (own_at e t p l ∙ le-ltb p (ports e.kind) h)
   | inr g ↦ high_port e p g
 ]
 
-port_agrees : (e : Element) → HasItsFields e → (p : ℕ) → agree (is_some (join_of e p)) (ltb p (ports e.kind)) ≡ true
-port_agrees e f p = elim (cases_lt p (ports e.kind)) [
-  | inl l ↦ agree_from _ _ (ap is_some (f.each_port p l).1 ∙ sym (lt-ltb p (ports e.kind) l))
-  | inr g ↦ agree_from _ _ (ap is_some (f.no_other p g) ∙ sym (le-ltb p (ports e.kind) g))
-]
+port_agrees : (e : Element) → HasItsFields e → (p : ℕ) → is_join_its_own e p ≡ true
+port_agrees e f p = (booleans_Decides _ _).1 (elim (cases_lt p (ports e.kind)) [
+  | inl l ↦ ap is_some (f.each_port p l).1 ∙ sym (lt-ltb p (ports e.kind) l)
+  | inr g ↦ ap is_some (f.no_other p g) ∙ sym (le-ltb p (ports e.kind) g)
+])
 
 -- a field that may be there only where a test holds
 only_where : (there holds : Bool) → (not there || holds) ≡ true → there ≡ true → holds ≡ true
 only_where true holds t e = t
-only_where false holds t e = absurd (true≢false (sym e))
+only_where false holds t e = cc
 
 only_from : (there holds : Bool) → (there ≡ true → holds ≡ true) → (not there || holds) ≡ true
 only_from true holds h = h refl
@@ -91,23 +70,23 @@ pub fields_sound : (e : Element) → has_its_fields e ≡ true → HasItsFields 
 fields_sound e t =
     let a = and_parts (are_joins_its_own e) _ t in
     let b = and_parts (are_fields_needed e) _ a.1 in
-    let needed = and_parts (agree (is_some e.section) (is_sectioned e.kind)) _ b.0 in
+    let needed = and_parts (beq (is_some e.section) (is_sectioned e.kind)) _ b.0 in
     let c = and_parts (are_fields_allowed e) _ b.1 in
     let allowed = and_parts (not (is_some e.dual) || is_point e.kind) _ c.0 in
     record {
       each_port = each_port e a.0;
       no_other = no_other e a.0;
-      section = agree_same _ _ needed.0;
+      section = (booleans_Decides _ _).0 needed.0;
       section_low = λ s is. low_sound e.section s is c.1;
-      sort = agree_same _ _ needed.1;
+      sort = (booleans_Decides _ _).0 needed.1;
       dual = λ h. point_test e.kind (only_where _ _ allowed.0 h);
       marks = λ h. signal_test e.kind (only_where _ _ allowed.1 h);
     }
 
 pub fields_from : (e : Element) → HasItsFields e → has_its_fields e ≡ true
 fields_from e f =
-    and_from _ _ (and_from _ _ (port_agrees e f 0) (and_from _ _ (port_agrees e f 1) (port_agrees e f 2)))
-    (and_from _ _ (and_from _ _ (agree_from _ _ f.section) (agree_from _ _ f.sort))
+    and_from _ _ (every_from (is_join_its_own e) 3 0 (λ p l m. port_agrees e f p))
+    (and_from _ _ (and_from _ _ ((booleans_Decides _ _).1 f.section) ((booleans_Decides _ _).1 f.sort))
     (and_from _ _
     (and_from _ _ (only_from (is_some e.dual) (is_point e.kind) (λ h. ap is_point (f.dual h)))
     (only_from (is_some e.marks) (is_signal e.kind) (λ h. ap is_signal (f.marks h))))

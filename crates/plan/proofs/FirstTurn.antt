@@ -1,25 +1,25 @@
 -- The first fault among numbers in a row: the start, a turn and the end of a loop over them, and when there is none.
-use Rattle.std.proofs.Common.{◌≡◌, ℕ, zero, suc, ◌+◌, ◌-◌, ◌<◌, ◌≤◌, Some, None, Option, sym, refl, ap, ◌∙◌, inl, inr, arith}
+use Rattle.std.proofs.Common.{◌≡◌, ℕ, zero, suc, ◌+◌, ◌-◌, ◌<◌, ◌≤◌, Some, None, Option, refl, ap, ◌∙◌, inl, inr, arith}
 use Rattle.std.proofs.lemmas.Bool.{cases_eq}
 use Rattle.faults.specs.declared.fault.Fault.{Fault}
-use Rattle.layout.proofs.JoinPorts.{some_apart}
-use Rattle.plan.specs.Checks.{first_of, first_fault}
+use Rattle.std.specs.Option.{option_or}
+use Rattle.plan.specs.Checks.{first_fault}
 
 pub first_none : (f : ℕ → Option Fault) (n i : ℕ) → first_fault f n i ≡ first_fault f (n - 0) i
 first_none f n i = let e : n - 0 ≡ n = omega arith in rw e
 
-pub first_more : (f : ℕ → Option Fault) (n i : ℕ) → i < n → first_fault f (n - i) i ≡ first_of (f i) (first_fault f (n - (i + 1)) (i + 1))
+pub first_more : (f : ℕ → Option Fault) (n i : ℕ) → i < n → first_fault f (n - i) i ≡ option_or (f i) (first_fault f (n - (i + 1)) (i + 1))
 first_more f n i h = let e : n - i ≡ suc (n - (i + 1)) = omega arith in rw e
 
 pub first_all : (f : ℕ → Option Fault) (n i : ℕ) → n ≤ i → first_fault f (n - i) i ≡ None
 first_all f n i h = let e : n - i ≡ 0 = omega arith in rw e
 
 -- the first of two faults is none exactly if both are none
-pub neither : (a b : Option Fault) → first_of a b ≡ None → (a ≡ None) × (b ≡ None)
+pub neither : (a b : Option Fault) → option_or a b ≡ None → (a ≡ None) × (b ≡ None)
 neither None b e = (refl, e)
-neither (Some f) b e = absurd (some_apart (sym e))
+neither (Some f) b e = cc
 
-pub neither_from : (a b : Option Fault) → a ≡ None → b ≡ None → first_of a b ≡ None
+pub neither_from : (a b : Option Fault) → a ≡ None → b ≡ None → option_or a b ≡ None
 neither_from a b x y = rw (x, y)
 
 -- there is no first fault exactly if no number has one

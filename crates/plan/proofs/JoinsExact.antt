@@ -1,18 +1,19 @@
 -- The tests of all joins pass exactly where the elements are well joined.
-use Rattle.std.proofs.Common.{◌≡◌, ℕ, ◌<◌, true, not, eqb, ltb, ◌≢◌, List, length, Some, None, Option, sym, refl, ap, ◌∙◌, subst, inl, inr, arith}
-use Rattle.std.proofs.lemmas.Bool.{and_parts, and_from, not-true, not_from_false, eqb-true, eqb-false, eq-eqb, ne_eqb, ltb-true, lt-ltb, true≢false}
+use Rattle.std.proofs.Common.{◌≡◌, ℕ, ◌<◌, true, not, eqb, ltb, ◌≢◌, List, length, Some, None, Option, sym, refl, ap, ◌∙◌, inl, inr, arith}
+use Rattle.std.proofs.lemmas.Bool.{and_parts, and_from, not-true, not_from_false, eqb-true, eqb-false, eq-eqb, ne_eqb, ltb-true, lt-ltb, cases_eq, cases_lt}
 use Rattle.layout.specs.declared.element.Element.{Element}
 use Rattle.layout.specs.declared.element.Join.{Join}
 use Rattle.layout.specs.Kinds.{ports}
 use Rattle.layout.specs.Ports.{at, join_of, joined}
 use Rattle.layout.specs.Sound.{WellJoined}
 use Rattle.layout.specs.Ways.{port}
-use Rattle.layout.proofs.JoinPorts.{some_apart, low_cases, joined_low}
-use Rattle.plan.specs.ElementTests.{leads_to, is_join_sound, are_apart, are_joins_sound}
+use Rattle.layout.proofs.EveryTurn.{every_each, every_from}
+use Rattle.layout.proofs.JoinPorts.{joined_low}
+use Rattle.plan.specs.ElementTests.{leads_to, is_join_sound, are_apart, is_apart, is_port_sound, are_joins_sound}
 
 -- a join that leads to a port is the join to it
 leads_sound : (o : Option Join) (e p : ℕ) → leads_to o e p ≡ true → o ≡ Some (port e p)
-leads_sound None e p t = absurd (true≢false (sym t))
+leads_sound None e p t = cc
 leads_sound (Some j) e p t =
     let b : (eqb j.element e ≡ true) × (eqb j.port p ≡ true) = and_parts _ _ t in
     let x : j.element ≡ e = eqb-true j.element e b.0 in
@@ -30,7 +31,7 @@ pub record SoundJoin (es : List Element) (e p : ℕ) (j : Join) : Type 0 where
   pub back : joined es j.element j.port ≡ Some (port e p)
 
 join_sound : (es : List Element) (e p : ℕ) (o : Option Join) (j : Join) → o ≡ Some j → is_join_sound es e p o ≡ true → SoundJoin es e p j
-join_sound es e p None j o t = absurd (some_apart o)
+join_sound es e p None j o t = cc
 join_sound es e p (Some i) j o t =
     let s : is_join_sound es e p (Some j) ≡ true = ap (is_join_sound es e p) (sym o) ∙ t in
     let a = and_parts (ltb j.element (length es)) _ s in
@@ -70,60 +71,36 @@ module _ (es : List Element) (e : ℕ) (t : are_joins_sound es e ≡ true) where
   abbrev J : ℕ → Option Join
   J p = join_of (at es e) p
 
-  parts : (is_join_sound es e 0 (J 0) ≡ true) × (is_join_sound es e 1 (J 1) ≡ true) × (is_join_sound es e 2 (J 2) ≡ true)
-      × (are_apart (J 0) (J 1) ≡ true) × (are_apart (J 0) (J 2) ≡ true) × (are_apart (J 1) (J 2) ≡ true)
-  parts =
-      let a = and_parts (is_join_sound es e 0 (J 0)) _ t in
-      let b = and_parts (is_join_sound es e 1 (J 1)) _ a.1 in
-      let c = and_parts (is_join_sound es e 2 (J 2)) _ b.1 in
-      let d = and_parts (are_apart (J 0) (J 1)) _ c.1 in
-      let f = and_parts (are_apart (J 0) (J 2)) _ d.1 in
-      (a.0, b.0, c.0, d.0, f.0, f.1)
+  port_at : (p : ℕ) (j : Join) → joined es e p ≡ Some j → is_port_sound es e p ≡ true
+  port_at p j h = every_each (is_port_sound es e) 3 0 t p (omega arith) (omega (arith, joined_low es e p j h))
 
   each_sound : (p : ℕ) (j : Join) → joined es e p ≡ Some j → SoundJoin es e p j
-  each_sound p j h =
-      let P : ℕ → Type 0 = λ n. joined es e n ≡ Some j → SoundJoin es e n j in
-      elim (low_cases p (joined_low es e p j h)) [
-        | inl z ↦ subst P (sym z) (λ o. join_sound es e 0 (J 0) j o parts.0) h
-        | inr (inl z) ↦ subst P (sym z) (λ o. join_sound es e 1 (J 1) j o parts.1) h
-        | inr (inr z) ↦ subst P (sym z) (λ o. join_sound es e 2 (J 2) j o parts.2) h
-      ]
+  each_sound p j h = join_sound es e p (J p) j h (and_parts (is_join_sound es e p (J p)) _ (port_at p j h)).0
 
-  apart_at : (m n : ℕ) → are_apart (J m) (J n) ≡ true → (p q : ℕ) (j k : Join) → p ≡ m → q ≡ n → joined es e p ≡ Some j → joined es e q ≡ Some k → j.element ≡ k.element → ⊥
-  apart_at m n a p q j k x y f g same =
-      apart_sound (J m) (J n) j k a (ap (λ (i : ℕ). joined es e i) (sym x) ∙ f) (ap (λ (i : ℕ). joined es e i) (sym y) ∙ g) same
+  -- of two ports, one is before the other
+  apart_at : (p q : ℕ) (j k : Join) → q < p → joined es e p ≡ Some j → joined es e q ≡ Some k → j.element ≢ k.element
+  apart_at p q j k before f g same =
+      let apart : is_apart (at es e) p ≡ true = (and_parts (is_join_sound es e p (J p)) _ (port_at p j f)).1 in
+      apart_sound (J q) (J p) k j (every_each (λ i. are_apart (J i) (J p)) p 0 apart q (omega arith) (omega (arith, before))) g f (sym same)
 
   once_sound : (p q : ℕ) (j k : Join) → joined es e p ≡ Some j → joined es e q ≡ Some k → j.element ≡ k.element → p ≡ q
-  once_sound p q j k f g same =
-      elim (low_cases p (joined_low es e p j f)) [
-        | inl x ↦ elim (low_cases q (joined_low es e q k g)) [
-          | inl y ↦ x ∙ sym y
-          | inr (inl y) ↦ absurd (apart_at 0 1 parts.3 p q j k x y f g same)
-          | inr (inr y) ↦ absurd (apart_at 0 2 parts.4 p q j k x y f g same)
-        ]
-        | inr (inl x) ↦ elim (low_cases q (joined_low es e q k g)) [
-          | inl y ↦ absurd (apart_at 0 1 parts.3 q p k j y x g f (sym same))
-          | inr (inl y) ↦ x ∙ sym y
-          | inr (inr y) ↦ absurd (apart_at 1 2 parts.5 p q j k x y f g same)
-        ]
-        | inr (inr x) ↦ elim (low_cases q (joined_low es e q k g)) [
-          | inl y ↦ absurd (apart_at 0 2 parts.4 q p k j y x g f (sym same))
-          | inr (inl y) ↦ absurd (apart_at 1 2 parts.5 q p k j y x g f (sym same))
-          | inr (inr y) ↦ x ∙ sym y
-        ]
-      ]
+  once_sound p q j k f g same = elim (cases_eq p q) [
+    | inl s ↦ s
+    | inr d ↦ elim (cases_lt p q) [
+      | inl l ↦ absurd (apart_at q p k j l g f (sym same))
+      | inr m ↦ absurd (apart_at p q j k (omega (arith, m, d)) f g same)
+    ]
+  ]
 
   joins_at : SoundJoins es e
   joins_at = record { each = each_sound; once = once_sound }
 
 joins_test : (es : List Element) (e : ℕ) → SoundJoins es e → are_joins_sound es e ≡ true
 joins_test es e s =
-    and_from _ _ (join_from es e 0 (joined es e 0) (s.each 0))
-    (and_from _ _ (join_from es e 1 (joined es e 1) (s.each 1))
-    (and_from _ _ (join_from es e 2 (joined es e 2) (s.each 2))
-    (and_from _ _ (apart_from (joined es e 0) (joined es e 1) (λ j k f g same. absurd (let z : ◌≡◌ {A = ℕ} 0 1 = s.once 0 1 j k f g same in omega arith)))
-    (and_from _ _ (apart_from (joined es e 0) (joined es e 2) (λ j k f g same. absurd (let z : ◌≡◌ {A = ℕ} 0 2 = s.once 0 2 j k f g same in omega arith)))
-    (apart_from (joined es e 1) (joined es e 2) (λ j k f g same. absurd (let z : ◌≡◌ {A = ℕ} 1 2 = s.once 1 2 j k f g same in omega arith)))))))
+    every_from (is_port_sound es e) 3 0 (λ p l m.
+    and_from _ _ (join_from es e p (joined es e p) (s.each p))
+    (every_from (λ q. are_apart (joined es e q) (joined es e p)) p 0 (λ q h before.
+    apart_from (joined es e q) (joined es e p) (λ j k f g same. absurd (let z : q ≡ p = s.once q p j k f g same in omega (arith, before))))))
 
 pub joined_sound : (es : List Element) → ((e : ℕ) → e < length es → are_joins_sound es e ≡ true) → WellJoined es
 joined_sound es t = record {

@@ -1,6 +1,13 @@
 -- A route passes the test of requests exactly if it requests no element both ways.
-use Rattle.std.proofs.Common.{◌≡◌, ℕ, ◌+◌, ◌<◌, ◌≤◌, Bool, true, false, not, ltb, ◌⊎◌, List, length, get_or, is_some, Some, None, Option, sym, refl, ap, subst, inl, inr, arith}
-use Rattle.std.proofs.lemmas.Bool.{and_parts, and_from, not-true, not-false, not_from_false, both_ways, cases_lt, le-ltb, lt-ltb, ltb-true}
+use Rattle.std.proofs.Common.{◌≡◌, ◌∙◌, ℕ, ◌<◌, ◌≤◌, true, false, not, ◌⊎◌, List, length, get_or, is_some, Some, None, Option, sym, refl, ap, subst, inl, inr, arith}
+use Rattle.std.specs.List.{list_any, zip}
+use Rattle.std.proofs.Math.ListN.{get_or-eq_default}
+use Rattle.std.proofs.lemmas.Bool.Decides.{nat_tests}
+use Rattle.std.proofs.lemmas.List.{get_or_default, get_or_past}
+use Rattle.std.proofs.lemmas.List.Elements.{All-from_get_or}
+use Rattle.std.proofs.lemmas.List.Folds.{list_any_at, list_any_none}
+use Rattle.std.proofs.lemmas.Slice.Zip.{length-zip, get_or-zip}
+use Rattle.std.proofs.lemmas.Bool.{and_parts, and_from, not-true, not_from_false, false_from_ne_true, both_ways, cases_lt}
 use Rattle.layout.specs.declared.element.Element.{Element}
 use Rattle.layout.specs.declared.element.Join.{Join}
 use Rattle.layout.specs.declared.kind.Kind.TheVariants as kind
@@ -9,19 +16,19 @@ use Rattle.layout.specs.declared.kind.Dual.TheVariants as dual
 use Rattle.layout.specs.declared.position.Position.{Position}
 use Rattle.layout.specs.declared.position.Position.TheVariants as position
 use Rattle.layout.specs.declared.route.Route.{Route}
-use Rattle.layout.specs.Every.{every}
+use Rattle.layout.specs.Drawings.{no_element}
 use Rattle.layout.specs.Kinds.{is_point}
 use Rattle.layout.specs.Ports.{at}
 use Rattle.layout.specs.Sound.{SoundElements}
-use Rattle.layout.proofs.EveryTurn.{every_each, every_not}
 use Rattle.paths.specs.Sound.{HasSoundPath, AllowedOverlap}
+use Rattle.flank.specs.declared.answers.Mark.{Mark}
 use Rattle.flank.specs.Search.{unmarked}
 use Rattle.flank.specs.Protection.{route_marks, request, requests_of}
 use Rattle.walks.specs.Walks.{Is, Prefers, both, plus, minus, Able, derailer, signal, point, Requested}
 use Rattle.walks.specs.Exactly.{In}
 use Rattle.walks.proofs.Tables.{in_requests, requests_have}
 use Rattle.walks.proofs.Exactly.{requests_exact}
-use Rattle.plan.specs.RequestTests.{is_torn, is_whole, asks_both_ways}
+use Rattle.plan.specs.RequestTests.{is_torn, asks_both_ways}
 
 abbrev prefers : Position → Dual
 prefers position.Plus = dual.PrefersPlus
@@ -45,18 +52,18 @@ able_kind (signal k m f) = inl refl
 able_kind (point p k f d b) = inr k
 
 able_point : {es : List Element} {r : Route} {q : Join} {p : Position} → Able es r q p → Is kind.Point es q → Prefers (at es q.element).dual p
-able_point (derailer k) i = absurd (let z : ◌≡◌ {A = ℕ} 0 1 = cc in omega arith)
-able_point (signal k m f) i = absurd (let z : ◌≡◌ {A = ℕ} 0 1 = cc in omega arith)
+able_point (derailer k) i = cc
+able_point (signal k m f) i = cc
 able_point (point p k f d b) i = d
 
 minus_point : {es : List Element} {r : Route} {q : Join} → Able es r q position.Minus → Is kind.Point es q
-minus_point a = elim (able_kind a) [ inl e ↦ absurd (let z : ◌≡◌ {A = ℕ} 0 1 = cc in omega arith) | inr k ↦ k ]
+minus_point a = elim (able_kind a) [ inl e ↦ cc | inr k ↦ k ]
 
 point_known : (es : List Element) (e : ℕ) → (at es e).kind ≡ kind.Point → e < length es
 point_known es e k = elim (cases_lt e (length es)) [
   | inl l ↦ l
-  | inr g ↦ let t : ltb e (length es) ≡ false = le-ltb e (length es) g in
-      let z : kind.Track ≡ kind.Point = rw t at k in absurd (let w : ◌≡◌ {A = ℕ} 0 1 = cc in omega arith)
+  | inr g ↦ let past : at es e ≡ no_element = grind (arith, nat_tests, get_or_past es e no_element) in
+      let z : kind.Track ≡ kind.Point = sym (ap (λ (x : Element). x.kind) past) ∙ k in cc
 ]
 
 module _ (es : List Element) (r : Route) (sound : SoundElements es) (few : length es ≤ 96) (path : HasSoundPath es r) (overlap : AllowedOverlap es r) where
@@ -70,39 +77,53 @@ module _ (es : List Element) (r : Route) (sound : SoundElements es) (few : lengt
   prefers_of e p k q =
       subst (λ (n : ℕ). Prefers (at es n).dual p) q.is (able_point q.able (subst (λ (n : ℕ). (at es n).kind ≡ kind.Point) (sym q.is) k))
 
-  torn_at : (e : ℕ) → Requested es r e position.Plus → Requested es r e position.Minus → is_torn es (route_marks es r) e ≡ true
+  abbrev marked : List Mark
+  marked = route_marks es r
+
+  torn_at : (e : ℕ) → Requested es r e position.Plus → Requested es r e position.Minus → is_torn (at es e, get_or marked e unmarked) ≡ true
   torn_at e a b =
       let k : (at es e).kind ≡ kind.Point = point_at e b in
-      let x = in_requests (route_marks es r) 96 e position.Plus (asked e position.Plus a) in
-      let y = in_requests (route_marks es r) 96 e position.Minus (asked e position.Minus b) in
+      let x = in_requests marked 96 e position.Plus (asked e position.Plus a) in
+      let y = in_requests marked 96 e position.Minus (asked e position.Minus b) in
       let none : is_some (at es e).dual ≡ false = no_dual (at es e).dual (prefers_of e position.Plus k a) (prefers_of e position.Minus k b) in
-      and_from _ _ (ap is_point k) (and_from _ _ (not_from_false _ none) (and_from _ _ (lt-ltb e 96 x.0) (and_from _ _ x.1 y.1)))
+      and_from _ _ (ap is_point k) (and_from _ _ (not_from_false _ none) (and_from _ _ x.1 y.1))
+
+  -- elements and what is asked of them, side by side
+  abbrev pairs : List (Element × Mark)
+  pairs = zip es marked
+
+  pair_at : (e : ℕ) → e < length es → e < length marked → get_or pairs e (no_element, unmarked) ≡ (at es e, get_or marked e unmarked)
+  pair_at e l m =
+      let known : get_or es e no_element ≡ at es e = grind (arith, nat_tests, get_or_default es e no_element) in
+      get_or-zip es marked e (no_element, unmarked) l m ∙ ap (λ (x : Element). (x, get_or marked e unmarked)) known
+
+  -- what is asked is in the table
+  in_table : (e : ℕ) → (get_or marked e unmarked).plus ≡ true → e < length marked
+  in_table e t = elim (cases_lt e (length marked)) [
+    | inl l ↦ l
+    | inr g ↦ let no : get_or marked e unmarked ≡ unmarked = get_or-eq_default marked unmarked g in cc
+  ]
 
   pub one_way_sound : not (asks_both_ways es r) ≡ true → (e : ℕ) → Requested es r e position.Plus → Requested es r e position.Minus → ⊥
   unfolding asks_both_ways
   one_way_sound t e a b =
-      let all : every (is_whole es (route_marks es r)) (length es) 0 ≡ true = not-false _ (not-true _ t) in
-      let here : is_whole es (route_marks es r) e ≡ true
-      = every_each (is_whole es (route_marks es r)) (length es) 0 all e (omega arith) (let l : e < length es = point_known es e (point_at e b) in omega arith) in
-      both_ways (is_torn es (route_marks es r) e) (not-true _ here) (torn_at e a b)
+      let x = in_requests marked 96 e position.Plus (asked e position.Plus a) in
+      let l : e < length es = point_known es e (point_at e b) in
+      let m : e < length marked = in_table e x.1 in
+      let torn : is_torn (get_or pairs e (no_element, unmarked)) ≡ true = ap is_torn (pair_at e l m) ∙ torn_at e a b in
+      both_ways (list_any is_torn pairs) (not-true _ t) (list_any_at is_torn pairs e (no_element, unmarked) (omega (arith, length-zip es marked)) torn)
 
   pub one_way_from : ((e : ℕ) → Requested es r e position.Plus → Requested es r e position.Minus → ⊥) → not (asks_both_ways es r) ≡ true
   unfolding asks_both_ways
-  one_way_from h = go (every (is_whole es (route_marks es r)) (length es) 0) refl
+  one_way_from h =
+      not_from_false _ (list_any_none is_torn pairs (All-from_get_or (λ p. is_torn p ≡ false) pairs (no_element, unmarked) (λ e k. false_from_ne_true _ (torn e k))))
     where
-      torn : (e : ℕ) → is_torn es (route_marks es r) e ≡ true → ⊥
-      torn e t =
-          let a = and_parts (is_point (at es e).kind) _ t in
+      torn : (e : ℕ) → e < length pairs → is_torn (get_or pairs e (no_element, unmarked)) ≡ true → ⊥
+      torn e k t =
+          let l : e < length es = omega (arith, length-zip es marked) in
+          let m : e < length marked = omega (arith, length-zip es marked) in
+          let a = and_parts (is_point (at es e).kind) _ (sym (ap is_torn (pair_at e l m)) ∙ t) in
           let b = and_parts (not (is_some (at es e).dual)) _ a.1 in
-          let c = and_parts (ltb e 96) _ b.1 in
-          let d = and_parts (get_or (route_marks es r) e unmarked).plus _ c.1 in
-          let l : e < 96 = ltb-true e 96 c.0 in
-          h e ((requests_exact es r sound few path overlap e position.Plus).1 (requests_have (route_marks es r) 96 e position.Plus l d.0))
-          ((requests_exact es r sound few path overlap e position.Minus).1 (requests_have (route_marks es r) 96 e position.Minus l d.1))
-
-      go : (b : Bool) → every (is_whole es (route_marks es r)) (length es) 0 ≡ b → not (not b) ≡ true
-      go true e = refl
-      go false e =
-          let x : (j : ℕ) × (0 ≤ j) × (j < 0 + length es) × (is_whole es (route_marks es r) j ≡ false)
-          = every_not (is_whole es (route_marks es r)) (length es) 0 e in
-          absurd (torn x.0 (not-false _ x.3))
+          let c = and_parts (get_or marked e unmarked).plus _ b.1 in
+          h e ((requests_exact es r sound few path overlap e position.Plus).1 (requests_have marked 96 e position.Plus (omega (arith, few)) c.0))
+          ((requests_exact es r sound few path overlap e position.Minus).1 (requests_have marked 96 e position.Minus (omega (arith, few)) c.1))

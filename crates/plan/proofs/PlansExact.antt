@@ -1,10 +1,11 @@
 -- A drawing passes the checks exactly if it is a sound plan.
-use Rattle.std.proofs.Common.{◌≡◌, ℕ, ◌<◌, ◌≤◌, min, Bool, true, false, not, List, length, get_or, Some, None, Option, sym, refl, ap, arith}
-use Rattle.std.proofs.lemmas.Bool.{true≢false}
+use Rattle.std.proofs.Common.{◌≡◌, ℕ, ◌<◌, ◌≤◌, min, Bool, true, false, not, List, length, get_or, None, refl, ap, arith}
+use Rattle.std.proofs.lemmas.Bool.{not-true}
+use Rattle.std.proofs.option.Match.{None-if_not_some}
 use Rattle.std.proofs.lemmas.List.{length-take}
+use Rattle.std.specs.Option.{is_none, option_or}
 use Rattle.bounded.specs.declared.bounded.Bounded.{Bounded}
 use Rattle.bounded.specs.Lists.{listed}
-use Rattle.faults.specs.declared.fault.Fault.{Fault}
 use Rattle.faults.specs.declared.fault.Cause.{Cause}
 use Rattle.faults.specs.declared.fault.Cause.TheVariants as cause
 use Rattle.layout.specs.declared.drawing.Drawing.{Drawing}
@@ -13,17 +14,15 @@ use Rattle.layout.specs.declared.route.Route.{Route}
 use Rattle.layout.specs.Drawings.{no_route}
 use Rattle.layout.specs.Ports.{at}
 use Rattle.layout.specs.Sound.{SoundElements}
-use Rattle.layout.proofs.JoinPorts.{some_apart}
 use Rattle.paths.specs.Paths.{has_path}
 use Rattle.paths.specs.Overlaps.{is_overlap_allowed}
 use Rattle.paths.specs.Sound.{HasSoundPath, AllowedOverlap}
 use Rattle.paths.proofs.PathsExact.{paths_exact}
 use Rattle.paths.proofs.OverlapsExact.{overlaps_exact}
-use Rattle.plan.specs.declared.demand.Demand.{Demand}
-use Rattle.plan.specs.declared.demand.Demand.TheVariants as the
 use Rattle.plan.specs.RequestTests.{asks_both_ways}
-use Rattle.plan.specs.Checks.{first_of, unmet, cause_of, meets, element_fault, elements_fault, route_fault_at, routes_fault, drawing_fault}
-use Rattle.plan.specs.Plans.{is_none, is_sound}
+use Rattle.plan.specs.Checks.{unmet, Demand, element_fault, elements_fault, fields_fault, joins_fault, entries_fault, route_fault_at, routes_fault, drawing_fault}
+use Rattle.plan.specs.declared.plan.Plan.{Plan}
+use Rattle.plan.specs.Plans.{is_sound}
 use Rattle.plan.specs.Sound.{SoundPlan, ChecksExact}
 use Rattle.plan.proofs.FirstTurn.{neither, neither_from, first_clear, first_from}
 use Rattle.plan.proofs.FieldsExact.{fields_sound, fields_from, entry_sound, entry_from}
@@ -32,19 +31,20 @@ use Rattle.plan.proofs.OneWay.{one_way_sound, one_way_from}
 
 met_sound : (met : Bool) (c : Cause) (place : ℕ) → unmet met c place ≡ None → met ≡ true
 met_sound true c place e = refl
-met_sound false c place e = absurd (some_apart (sym e))
+met_sound false c place e = cc
 
 met_from : (met : Bool) (c : Cause) (place : ℕ) → met ≡ true → unmet met c place ≡ None
 met_from met c place e = rw e
 
 -- one demand over all elements
-all_meet : (es : List Element) (m : Demand) → elements_fault es m ≡ None → (e : ℕ) → e < length es → meets es m e ≡ true
-unfolding elements_fault
-all_meet es m t e h = met_sound (meets es m e) (cause_of m) e (first_clear (element_fault es m) (length es) 0 t e (omega arith) (omega arith))
+module _ (es : List Element) (demand : Demand) (c : Cause) where
+  all_meet : elements_fault es demand c ≡ None → (e : ℕ) → e < length es → demand e (at es e) ≡ true
+  unfolding elements_fault
+  all_meet t e h = met_sound (demand e (at es e)) c e (first_clear (element_fault es demand c) (length es) 0 t e (omega arith) (omega arith))
 
-all_from : (es : List Element) (m : Demand) → ((e : ℕ) → e < length es → meets es m e ≡ true) → elements_fault es m ≡ None
-unfolding elements_fault
-all_from es m h = first_from (element_fault es m) (length es) 0 (λ e l k. met_from (meets es m e) (cause_of m) e (h e (omega arith)))
+  all_from : ((e : ℕ) → e < length es → demand e (at es e) ≡ true) → elements_fault es demand c ≡ None
+  unfolding elements_fault
+  all_from h = first_from (element_fault es demand c) (length es) 0 (λ e l k. met_from (demand e (at es e)) c e (h e (omega arith)))
 
 -- the demands on all routes
 route_meets : (es : List Element) (rs : List Route) → routes_fault es rs ≡ None → (i : ℕ) → i < length rs
@@ -53,7 +53,7 @@ unfolding routes_fault
 route_meets es rs t i h =
     let r : Route = get_or rs i no_route in
     let one : (unmet (has_path es r) cause.Path i ≡ None)
-    × (first_of (unmet (is_overlap_allowed es r) cause.Overlap i) (unmet (not (asks_both_ways es r)) cause.BothWays i) ≡ None)
+    × (option_or (unmet (is_overlap_allowed es r) cause.Overlap i) (unmet (not (asks_both_ways es r)) cause.BothWays i) ≡ None)
     = neither _ _ (first_clear (route_fault_at es rs) (length rs) 0 t i (omega arith) (omega arith)) in
     let two : (unmet (is_overlap_allowed es r) cause.Overlap i ≡ None) × (unmet (not (asks_both_ways es r)) cause.BothWays i ≡ None) = neither _ _ one.1 in
     (met_sound _ cause.Path i one.0, met_sound _ cause.Overlap i two.0, met_sound _ cause.BothWays i two.1)
@@ -68,15 +68,11 @@ routes_from es rs h =
     let met = h i (omega arith) in
     neither_from _ _ (met_from _ cause.Path i met.0) (neither_from _ _ (met_from _ cause.Overlap i met.1) (met_from _ cause.BothWays i met.2)))
 
-none_sound : (o : Option Fault) → is_none o ≡ true → o ≡ None
-none_sound None e = refl
-none_sound (Some f) e = absurd (true≢false (sym e))
-
-elements_sound : (es : List Element) → elements_fault es the.Fields ≡ None → elements_fault es the.Joins ≡ None → elements_fault es the.Entry ≡ None → SoundElements es
+elements_sound : (es : List Element) → fields_fault es ≡ None → joins_fault es ≡ None → entries_fault es ≡ None → SoundElements es
 elements_sound es f j n = record {
-  fields = λ e h. fields_sound (at es e) (all_meet es the.Fields f e h);
-  joins = joined_sound es (all_meet es the.Joins j);
-  entries = λ e m h. entry_sound (at es e) (all_meet es the.Entry n e h) m;
+  fields = λ e h. fields_sound (at es e) (all_meet es _ _ f e h);
+  joins = joined_sound es (all_meet es _ _ j);
+  entries = λ e m h. entry_sound (at es e) (all_meet es _ _ n e h) m;
 }
 
 -- a bounded list is never longer than its bound
@@ -88,10 +84,10 @@ unfolding is_sound
 plan_sound d t =
     let es : List Element = listed d.elements in
     let rs : List Route = listed d.routes in
-    let a : (elements_fault es the.Fields ≡ None) × (first_of (elements_fault es the.Joins) (first_of (elements_fault es the.Entry) (routes_fault es rs)) ≡ None)
-    = neither _ _ (none_sound (drawing_fault d) t) in
-    let b : (elements_fault es the.Joins ≡ None) × (first_of (elements_fault es the.Entry) (routes_fault es rs) ≡ None) = neither _ _ a.1 in
-    let c : (elements_fault es the.Entry ≡ None) × (routes_fault es rs ≡ None) = neither _ _ b.1 in
+    let a : (fields_fault es ≡ None) × (option_or (joins_fault es) (option_or (entries_fault es) (routes_fault es rs)) ≡ None)
+    = neither _ _ (None-if_not_some (drawing_fault d) (not-true _ t)) in
+    let b : (joins_fault es ≡ None) × (option_or (entries_fault es) (routes_fault es rs) ≡ None) = neither _ _ a.1 in
+    let c : (entries_fault es ≡ None) × (routes_fault es rs ≡ None) = neither _ _ b.1 in
     let sound : SoundElements es = elements_sound es a.0 b.0 c.0 in
     let path : (i : ℕ) → i < length rs → HasSoundPath es (get_or rs i no_route) = λ i h. (paths_exact es (get_or rs i no_route) sound).0 (route_meets es rs c.1 i h).0 in
     let overlap : (i : ℕ) → i < length rs → AllowedOverlap es (get_or rs i no_route)
@@ -111,9 +107,9 @@ plan_from d s =
     let es : List Element = listed d.elements in
     let rs : List Route = listed d.routes in
     let none : drawing_fault d ≡ None
-    = neither_from _ _ (all_from es the.Fields (λ e h. fields_from (at es e) (s.elements.fields e h)))
-    (neither_from _ _ (all_from es the.Joins (joined_from es s.elements.joins))
-    (neither_from _ _ (all_from es the.Entry (λ e h. entry_from (at es e) (λ m. s.elements.entries e m h)))
+    = neither_from _ _ (all_from es _ _ (λ e h. fields_from (at es e) (s.elements.fields e h)))
+    (neither_from _ _ (all_from es _ _ (joined_from es s.elements.joins))
+    (neither_from _ _ (all_from es _ _ (λ e h. entry_from (at es e) (λ m. s.elements.entries e m h)))
     (routes_from es rs (λ i h. (
       (paths_exact es (get_or rs i no_route) s.elements).1 (s.paths i h),
       (overlaps_exact es (get_or rs i no_route) s.elements (s.paths i h)).1 (s.overlaps i h),
@@ -123,3 +119,7 @@ plan_from d s =
 
 pub checks_exact : ChecksExact
 checks_exact d = (plan_sound d, plan_from d)
+
+-- every plan passed the checks
+pub plan_is_sound : (p : Plan) → SoundPlan p.drawing
+plan_is_sound p = plan_sound p.drawing p.sound

@@ -1,5 +1,7 @@
 -- What offered bytes mean to a plan.
-use Rattle.std.specs.Prelude.{ℕ, Bool, true, false, List, [], ◌∷◌, Some, None, Ok, Err, Option, Result}
+use Rattle.std.specs.Prelude.{ℕ, Bool, List, [], ◌∷◌, Some, None, Ok, Err, Result}
+use Rattle.std.specs.Option.{is_none}
+use Rattle.std.specs.Result.{result_unwrap_or}
 use Rattle.faults.specs.declared.fault.Fault.{Fault}
 use Rattle.layout.specs.declared.drawing.Drawing.{Drawing}
 use Rattle.layout.specs.declared.element.Element.{Element}
@@ -7,10 +9,6 @@ use Rattle.layout.specs.declared.kind.Kind.TheVariants as kind
 use Rattle.layout.specs.Drawings.{no_drawing, with_element}
 use Rattle.planbytes.specs.Files.{drawn_by, unless}
 use Rattle.plan.specs.Checks.{drawing_fault}
-
-abbrev pub is_none : Option Fault → Bool
-is_none None = true
-is_none (Some f) = false
 
 -- A drawing passes all checks.
 unfoldable pub is_sound : Drawing → Bool
@@ -26,8 +24,7 @@ reading bs = checked (drawn_by bs)
 
 -- The drawing of a plan after a reading: the old one where there is a fault.
 abbrev pub drawing_after : Result Drawing Fault → Drawing → Drawing
-drawing_after (Ok d) old = d
-drawing_after (Err f) old = old
+drawing_after = result_unwrap_or
 
 -- A plan end joined to another one.
 abbrev pub end_to : ℕ → Element

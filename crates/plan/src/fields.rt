@@ -11,9 +11,7 @@ fn ports_fit(element: &Element) -> bool
     ensures { result ≡ are_joins_its_own element.now }
 {
     let ports = element.kind.port_count();
-    element.join(0).is_some() == (0 < ports)
-        && element.join(1).is_some() == (1 < ports)
-        && element.join(2).is_some() == (2 < ports)
+    (0..3).all(|port| element.join(port).is_some() == (port < ports))
 }
 
 /// Whether section and sort are there exactly where the kind needs them.

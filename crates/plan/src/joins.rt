@@ -1,7 +1,7 @@
 //! The joins of an element.
 
 ghost use Rattle.std.specs.Prelude.{◌≡◌};
-ghost use Rattle.plan.specs.ElementTests.{leads_to, is_join_sound, are_apart, are_joins_sound};
+ghost use Rattle.plan.specs.ElementTests.{leads_to, is_join_sound, are_apart, is_apart, is_port_sound, are_joins_sound};
 
 use layout::element::{Element, Join};
 use layout::ports::element_at;
@@ -21,11 +21,11 @@ fn join_fits(elements: &[Element], number: usize, port: u8, join: Option<Join>) 
         return true;
     };
     let far = join.element as usize;
-    let other = element_at(elements, far);
-    far < elements.len()
-        && join.port < other.kind.port_count()
-        && far != number
-        && goes_to(other.join(join.port), number, port)
+    elements.get(far).is_some_and(|other| {
+        join.port < other.kind.port_count()
+            && far != number
+            && goes_to(other.join(join.port), number, port)
+    })
 }
 
 /// Whether two joins do not go to the same element.
@@ -38,16 +38,25 @@ fn are_apart(one: Option<Join>, other: Option<Join>) -> bool
     }
 }
 
+/// Whether the join of a port does not go to the same element as the join of a port before it.
+fn is_apart(element: &Element, port: u8) -> bool
+    ensures { result ≡ is_apart element.now port }
+{
+    let join = element.join(port);
+    (0..port).all(|earlier| are_apart(element.join(earlier), join))
+}
+
+/// Whether the join of a port is sound, and apart from those before it.
+fn port_fits(elements: &[Element], number: usize, port: u8) -> bool
+    ensures { result ≡ is_port_sound elements.now number port }
+{
+    let element = element_at(elements, number);
+    join_fits(elements, number, port, element.join(port)) && is_apart(&element, port)
+}
+
 /// Whether the joins of an element are sound.
 pub(crate) fn joins_fit(elements: &[Element], number: usize) -> bool
     ensures { result ≡ are_joins_sound elements.now number }
 {
-    let element = element_at(elements, number);
-    let (first, second, third) = (element.join(0), element.join(1), element.join(2));
-    join_fits(elements, number, 0, first)
-        && join_fits(elements, number, 1, second)
-        && join_fits(elements, number, 2, third)
-        && are_apart(first, second)
-        && are_apart(first, third)
-        && are_apart(second, third)
+    (0..3).all(|port| port_fits(elements, number, port))
 }

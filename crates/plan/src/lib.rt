@@ -2,7 +2,6 @@
 #![tactic(auto)]
 
 mod checking;
-mod demand;
 mod fields;
 mod joins;
 pub mod plan;

@@ -1,10 +1,10 @@
 //! The checked plan.
 
 ghost use Rattle.std.specs.Prelude.{◌≡◌, true, IfOk};
-ghost use Rattle.planbytes.specs.Bytes.{fault_in};
+ghost use Rattle.std.specs.Result.{result_err, result_map_both};
 ghost use Rattle.plan.specs.Plans.{is_sound, end_to, fresh_drawing, reading, drawing_after};
 ghost use Rattle.sheets.specs.Sheets.{sheets_of};
-ghost use Rattle.plan.specs.Flanks.{flanks_answer, flanks_requests, flanks_branches};
+ghost use Rattle.plan.specs.Flanks.{route_answer, flanks_answer, flanks_requests, flanks_branches};
 ghost use Rattle.plan.specs.Sound.{SoundPlan, ChecksExact};
 ghost use Rattle.walks.specs.Exactly.{RequestsExact, BranchesExact};
 
@@ -15,6 +15,7 @@ use flank::protection::protection;
 use layout::drawing::Drawing;
 use layout::element::{Element, Join};
 use layout::kind::Kind;
+use layout::route::Route;
 use planbytes::reading::drawn;
 use refusals::refusal::Refusal;
 use sheets::making::sheets_of;
@@ -30,6 +31,7 @@ pub struct Plan {
 }
 
 /// The drawing that bytes say, if it passes all checks.
+#[tactic(auto, unfolding(crate::specs::Plans::reading, crate::specs::Plans::is_sound))]
 fn checked_drawing(bytes: &[u8]) -> Result<Drawing, Fault>
     ensures value { result ≡ reading bytes.now }
     ensures sound { IfOk result (λ d. is_sound d ≡ true) }
@@ -53,10 +55,7 @@ fn end_to(number: u8) -> Element
             None,
             None,
         ],
-        section: None,
-        dual: None,
-        sort: None,
-        marks: None,
+        ..Element::default()
     }
 }
 
@@ -71,6 +70,7 @@ fn two_ends() -> Drawing
 
 impl Plan {
     /// A plan of two plan ends joined to each other, with no route.
+    #[tactic(auto, unfolding(bounded::specs::Lists::blanks, crate::specs::Plans::is_sound, crate::specs::Checks::elements_fault, crate::specs::Checks::routes_fault))]
     pub fn fresh() -> Plan
         ensures { result.drawing ≡ fresh_drawing }
     {
@@ -94,7 +94,7 @@ impl Plan {
 
     /// Takes up what the bytes draw; on a fault the plan keeps its content.
     pub fn read(&mut self, bytes: &[u8]) -> Result<(), Fault>
-        ensures answer { fault_in result ≡ fault_in (reading bytes.now) }
+        ensures answer { result_err result ≡ result_err (reading bytes.now) }
         ensures drawing { self.new.drawing ≡ drawing_after (reading bytes.now) self.old.drawing }
     {
         let drawing = checked_drawing(bytes)?;
@@ -110,6 +110,14 @@ impl Plan {
         &self.sheets
     }
 
+    /// The route with a number.
+    pub fn route(&self, number: u8) -> Result<&Route, Refusal>
+        ensures { result_map_both (λ route. route.now) (λ refusal. refusal) result ≡ route_answer self.now.drawing number }
+    {
+        let routes = self.drawing.routes.as_slice();
+        routes.get(number as usize).ok_or(Refusal::NoSuchRoute)
+    }
+
     /// Fills two lists with what a route requests at its flanks, by element, and with its open branches, by used point and last
     /// point, and answers the two numbers. A refusal leaves both lists as they are.
     pub fn flanks(
@@ -123,8 +131,7 @@ impl Plan {
         ensures branches { branches.new ≡ flanks_branches self.now.drawing route requests.old branches.old }
     {
         let elements = self.drawing.elements.as_slice();
-        let routes = self.drawing.routes.as_slice();
-        let route = routes.get(route as usize).ok_or(Refusal::NoSuchRoute)?;
+        let route = self.route(route)?;
         protection(elements, route, requests, branches).ok_or(Refusal::ListTooShort)
     }
 }

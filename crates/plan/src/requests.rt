@@ -1,35 +1,28 @@
 //! Points that a route would request both ways.
 
-ghost use Rattle.std.specs.Prelude.{◌≡◌, length};
-ghost use Rattle.plan.specs.RequestTests.{is_asked_twice, is_torn, asks_both_ways};
+ghost use Rattle.std.specs.Prelude.{◌≡◌};
+ghost use Rattle.plan.specs.RequestTests.{is_torn, asks_both_ways};
 
 use flank::answers::Mark;
 use flank::protection::shields;
 use layout::element::Element;
-use layout::ports::element_at;
 use layout::route::Route;
 
-/// Whether an element is asked for in both positions.
-fn is_asked_twice(marked: &[Mark; 96], number: usize) -> bool
-    ensures { result ≡ is_asked_twice marked.now number }
-{
-    marked
-        .get(number)
-        .is_some_and(|mark| mark.plus && mark.minus)
-}
-
 /// Whether a point without the dual field is asked for in both positions.
-fn is_torn(elements: &[Element], marked: &[Mark; 96], number: usize) -> bool
-    ensures { result ≡ is_torn elements.now marked.now number }
+fn is_torn(element: &Element, mark: &Mark) -> bool
+    ensures { result ≡ is_torn (element.now, mark.now) }
 {
-    let element = element_at(elements, number);
-    element.kind.is_point() && element.dual.is_none() && is_asked_twice(marked, number)
+    element.kind.is_point() && element.dual.is_none() && mark.plus && mark.minus
 }
 
 /// Whether a route requests a point without the dual field both ways.
+#[tactic(auto, unfolding(crate::specs::RequestTests::asks_both_ways))]
 pub(crate) fn asks_both_ways(elements: &[Element], route: &Route) -> bool
     ensures { result ≡ asks_both_ways elements.now route.now }
 {
     let marked = shields(elements, route);
-    (0..elements.len()).any(|number| is_torn(elements, &marked, number))
+    elements
+        .iter()
+        .zip(&marked)
+        .any(|(element, mark)| is_torn(element, mark))
 }

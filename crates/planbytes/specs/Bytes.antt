@@ -1,5 +1,6 @@
 -- Reading bytes one after another, to the first fault.
-use Rattle.std.specs.Prelude.{ℕ, zero, suc, ◌+◌, cond, ◌&&◌, List, length, Some, None, Ok, Err, Option, Result, nat_le, nat_lt, slice_index}
+use Rattle.std.specs.Prelude.{ℕ, zero, suc, ◌+◌, cond, ◌&&◌, List, [], ◌∷◌, Some, None, Ok, Err, Option, Result, nat_le}
+use Rattle.std.specs.Result.{result_map_both}
 use Rattle.faults.specs.declared.fault.Fault.{Fault}
 use Rattle.faults.specs.declared.fault.Cause.{Cause}
 use Rattle.faults.specs.declared.fault.Cause.TheVariants as cause
@@ -7,44 +8,46 @@ use Rattle.faults.specs.declared.fault.Cause.TheVariants as cause
 abbrev pub fault : Cause → ℕ → Fault
 fault c p = record { cause = c; place = p }
 
--- What a read answers: a value with the place after it, or a fault.
+-- Bytes that stand together among the offered ones, and the offset of the first of them.
+abbrev pub Bytes : Type 0
+Bytes = List ℕ × ℕ
+
+-- What a read answers: a value with the bytes left after it, or a fault.
 abbrev pub Reading : Type 0 → Type 0
-Reading X = Result (X × ℕ) Fault
+Reading X = Result (X × Bytes) Fault
 
--- A read: what it answers at each offset of the first byte, all bytes and the place before it.
+-- A read: what it answers by the bytes left before it.
 abbrev pub Read : Type 0 → Type 0
-Read X = ℕ → List ℕ → ℕ → Reading X
+Read X = Bytes → Reading X
 
--- A read and then, at the place after it, another one.
-abbrev pub and_then : {X Y : Type 0} → Result (X × ℕ) Fault → (X → ℕ → Result (Y × ℕ) Fault) → Result (Y × ℕ) Fault
+-- A read, and then what is made of its value and of the bytes left after it: another read, or what the bytes say in the end.
+abbrev pub and_then : {X Y : Type 0} → Reading X → (X → Bytes → Result Y Fault) → Result Y Fault
 and_then (Ok v) f = f v.0 v.1
 and_then (Err e) f = Err e
 
 -- A step taken n times, to its first fault; it takes a state to the next one.
-abbrev pub times : {S : Type 0} → ℕ → (S → ℕ → Result (S × ℕ) Fault) → S → ℕ → Result (S × ℕ) Fault
-times zero f s p = Ok (s, p)
-times (suc n) f s p = and_then (f s p) (times n f)
+abbrev pub times : {S : Type 0} → ℕ → (S → Bytes → Reading S) → S → Bytes → Reading S
+times zero f s bs = Ok (s, bs)
+times (suc n) f s bs = and_then (f s bs) (times n f)
 
--- The reads below go over the bytes bs, which stand at the offset o of the offered ones, from the place p on.
-
--- A byte; where there is none, the fault is at the number of bytes.
-abbrev pub byte_at : ℕ → List ℕ → ℕ → Result (ℕ × ℕ) Fault
-byte_at o bs p = cond (nat_lt p (length bs)) (Ok (slice_index bs p, p + 1)) (Err (fault cause.Ended (o + length bs)))
+-- A byte; where there is none, the fault is behind the last one.
+abbrev pub byte_at : Read ℕ
+byte_at ([], o) = Err (fault cause.Ended o)
+byte_at (b ∷ bs, o) = Ok (b, (bs, o + 1))
 
 -- A byte from low to high; outside that range, the fault is at the byte.
-abbrev pub byte_in : ℕ → ℕ → ℕ → List ℕ → ℕ → Result (ℕ × ℕ) Fault
-byte_in low high o bs p = and_then (byte_at o bs p) (λ b q. cond (nat_le low b && nat_le b high) (Ok (b, q)) (Err (fault cause.OutOfRange (o + p))))
+abbrev pub byte_in : ℕ → ℕ → Read ℕ
+byte_in low high bs = and_then (byte_at bs) (λ b cs. cond (nat_le low b && nat_le b high) (Ok (b, cs)) (Err (fault cause.OutOfRange bs.1)))
 
 -- A byte where none may follow is a fault, at the first such byte.
-abbrev pub left_over : ℕ → List ℕ → ℕ → Option Fault
-left_over o bs p = cond (nat_lt p (length bs)) (Some (fault cause.LeftOver (o + p))) None
+abbrev pub left_over : Bytes → Option Fault
+left_over ([], o) = None
+left_over (b ∷ bs, o) = Some (fault cause.LeftOver o)
 
--- The fault of an answer, if it is one.
-abbrev pub fault_in : {X : Type 0} → Result X Fault → Option Fault
-fault_in (Ok v) = None
-fault_in (Err f) = Some f
+-- What is made of an answer; a fault stays.
+abbrev pub made_of : {X Y : Type 0} → (X → Y) → Result X Fault → Result Y Fault
+made_of f = result_map_both f (λ fault. fault)
 
--- An answer with the place after it.
-abbrev pub ended_at : {X : Type 0} → Result X Fault → ℕ → Result (X × ℕ) Fault
-ended_at (Ok v) p = Ok (v, p)
-ended_at (Err f) p = Err f
+-- An answer with the bytes left after it.
+abbrev pub ended_at : {X : Type 0} → Result X Fault → Bytes → Reading X
+ended_at r bs = made_of (λ v. (v, bs)) r

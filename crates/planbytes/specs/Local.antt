@@ -1,99 +1,93 @@
--- A read that asks for some bytes answers the same on a window that has them as on all the bytes.
+-- A read that asks for some bytes answers the same on these alone as on all that are left.
 use Rattle.std.proofs.Common.{◌≡◌, ℕ, zero, suc, ◌+◌, ◌-◌, ◌≤◌, min, List, length, take, drop, Ok, Err, sym, refl, ap, ◌∙◌, subst, arith}
-use Rattle.planbytes.specs.Bytes.{Reading, Read, and_then, times, ended_at}
+use Rattle.std.proofs.lemmas.List.{drop-drop, length-drop, take_all}
+use Rattle.planbytes.specs.Bytes.{Bytes, Reading, Read, and_then, times, made_of, ended_at}
 use Rattle.planbytes.specs.Records.{value_of}
 
--- How many bytes a read asks for, by the bytes and the place before it.
+-- How many bytes a read asks for, by the bytes left before it.
 abbrev pub Width : Type 0
-Width = List ℕ → ℕ → ℕ
+Width = List ℕ → ℕ
 
--- At most n bytes, from p on.
-abbrev pub window : ℕ → ℕ → List ℕ → List ℕ
-window n p bs = take (min n (length bs - p)) (drop p bs)
+-- An answer after which at most n bytes are left.
+abbrev pub shortened : {X : Type 0} → ℕ → Reading X → Reading X
+shortened n = made_of (λ v. (v.0, (take n v.1.0, v.1.1)))
 
--- An answer on a window from p on, with the place counted from the first of all the bytes.
-abbrev pub moved : {X : Type 0} → ℕ → Reading X → Reading X
-moved p (Ok v) = Ok (v.0, p + v.1)
-moved p (Err f) = Err f
-
--- The read f asks for w bytes: a window that has them is as good as all the bytes, and a value comes with the place after them.
+-- The read f asks for w bytes: any bytes that begin with them are as good as all, and a value leaves what stands after them.
 pub record Local {X : Type 0} (w : Width) (f : Read X) : Type 0 where
-  pub same : (o : ℕ) (bs : List ℕ) (p n i : ℕ) → p + i ≤ length bs → i + w bs (p + i) ≤ n
-      → moved p (f (o + p) (window n p bs) i) ≡ f o bs (p + i)
-  pub ends : (o : ℕ) (bs : List ℕ) (p : ℕ) (v : X) (q : ℕ) → p ≤ length bs → f o bs p ≡ Ok (v, q) → (q ≡ p + w bs p) × (q ≤ length bs)
+  pub same : (bs : List ℕ) (o n : ℕ) → w bs ≤ n → f (take n bs, o) ≡ shortened (n - w bs) (f (bs, o))
+  pub ends : (bs : List ℕ) (o : ℕ) (v : X) (cs : Bytes) → f (bs, o) ≡ Ok (v, cs) → (cs ≡ (drop (w bs) bs, o + w bs)) × (w bs ≤ length bs)
 
 -- As many bytes, counted in another way.
-pub wide_local : {X : Type 0} (a b : Width) (f : Read X) → Local a f → ((bs : List ℕ) (p : ℕ) → a bs p ≡ b bs p) → Local b f
-wide_local a b f l same = subst (λ w. Local w f) (λ i bs p. same bs p i) l
+pub wide_local : {X : Type 0} (a b : Width) (f : Read X) → Local a f → ((bs : List ℕ) → a bs ≡ b bs) → Local b f
+wide_local a b f l same = subst (λ w. Local w f) (λ i bs. same bs i) l
 
 -- No byte.
-pub pure_local : {X : Type 0} (v : X) → Local (λ bs p. 0) (λ o bs p. Ok (v, p))
+pub pure_local : {X : Type 0} (v : X) → Local (λ bs. 0) (λ bs. Ok (v, bs))
 pure_local v = record {
-  same = λ o bs p n i h k. refl;
-  ends = λ o bs p u q h e. grind arith;
+  same = λ bs o n h. grind arith;
+  ends = λ bs o u cs e. grind arith;
 }
 
 -- A read f, and then one, g, that may go by what was read; c counts the bytes of both.
 module _ {X Y : Type 0} (a : Width) (b : X → Width) (c : Width) (f : Read X) (g : X → Read Y) (lf : Local a f) (lg : (v : X) → Local (b v) (g v))
-    (sum : (o : ℕ) (bs : List ℕ) (p : ℕ) (v : X) (q : ℕ) → p ≤ length bs → f o bs p ≡ Ok (v, q) → c bs p ≡ a bs p + b v bs q) where
-  then_same : (o : ℕ) (bs : List ℕ) (p n i : ℕ) → p + i ≤ length bs → i + c bs (p + i) ≤ n
-      → (x : Reading X) → moved p x ≡ f o bs (p + i)
-      → moved p (and_then x (λ v r. g v (o + p) (window n p bs) r)) ≡ and_then (moved p x) (λ v r. g v o bs r)
-  then_same o bs p n i h k (Err e) s = refl
-  then_same o bs p n i h k (Ok v) s =
-      let e : (p + v.1 ≡ p + i + a bs (p + i)) × (p + v.1 ≤ length bs) = lf.ends o bs (p + i) v.0 (p + v.1) h (sym s) in
-      let t : c bs (p + i) ≡ a bs (p + i) + b v.0 bs (p + v.1) = sum o bs (p + i) v.0 (p + v.1) h (sym s) in
-      (lg v.0).same o bs p n v.1 e.1 (omega (arith, e.0))
+    (sum : (bs : List ℕ) (o : ℕ) (v : X) (cs : Bytes) → f (bs, o) ≡ Ok (v, cs) → c bs ≡ a bs + b v cs.0) where
+  then_same : (bs : List ℕ) (o n : ℕ) → c bs ≤ n → (x : Reading X) → f (bs, o) ≡ x
+      → and_then (shortened (n - a bs) x) g ≡ shortened (n - c bs) (and_then x g)
+  then_same bs o n h (Err e) s = refl
+  then_same bs o n h (Ok v) s =
+      let t : c bs ≡ a bs + b v.0 v.1.0 = sum bs o v.0 v.1 s in
+      let m : n - a bs - b v.0 v.1.0 ≡ n - c bs = omega (arith, t) in
+      (lg v.0).same v.1.0 v.1.1 (n - a bs) (omega (arith, t, h)) ∙ ap (λ k. shortened k (g v.0 v.1)) m
 
-  then_ends : (o : ℕ) (bs : List ℕ) (p : ℕ) (u : Y) (q : ℕ) → p ≤ length bs
-      → (x : Reading X) → f o bs p ≡ x → and_then x (λ v r. g v o bs r) ≡ Ok (u, q) → (q ≡ p + c bs p) × (q ≤ length bs)
-  then_ends o bs p u q h (Err e) s d = absurd (cc)
-  then_ends o bs p u q h (Ok v) s d =
-      let e : (v.1 ≡ p + a bs p) × (v.1 ≤ length bs) = lf.ends o bs p v.0 v.1 h s in
-      let t : c bs p ≡ a bs p + b v.0 bs v.1 = sum o bs p v.0 v.1 h s in
-      let i : (q ≡ v.1 + b v.0 bs v.1) × (q ≤ length bs) = (lg v.0).ends o bs v.1 u q e.1 d in
-      (omega (arith, e.0, i.0), i.1)
+  then_ends : (bs : List ℕ) (o : ℕ) (u : Y) (cs : Bytes) → (x : Reading X) → f (bs, o) ≡ x → and_then x g ≡ Ok (u, cs)
+      → (cs ≡ (drop (c bs) bs, o + c bs)) × (c bs ≤ length bs)
+  then_ends bs o u cs (Err e) s d = absurd (cc)
+  then_ends bs o u cs (Ok v) s d =
+      let e : (v.1 ≡ (drop (a bs) bs, o + a bs)) × (a bs ≤ length bs) = lf.ends bs o v.0 v.1 s in
+      let t : c bs ≡ a bs + b v.0 v.1.0 = sum bs o v.0 v.1 s in
+      let i : (cs ≡ (drop (b v.0 v.1.0) v.1.0, v.1.1 + b v.0 v.1.0)) × (b v.0 v.1.0 ≤ length v.1.0) = (lg v.0).ends v.1.0 v.1.1 u cs d in
+      grind (arith, drop-drop, length-drop)
 
-  pub then_local : ((bs : List ℕ) (p : ℕ) → a bs p ≤ c bs p) → Local c (λ o bs p. and_then (f o bs p) (λ v q. g v o bs q))
+  pub then_local : ((bs : List ℕ) → a bs ≤ c bs) → Local c (λ bs. and_then (f bs) g)
   then_local low = record {
-    same = λ o bs p n i h k.
-        let m : a bs (p + i) ≤ c bs (p + i) = low bs (p + i) in
-        let s : moved p (f (o + p) (window n p bs) i) ≡ f o bs (p + i) = lf.same o bs p n i h (omega arith) in
-        then_same o bs p n i h k (f (o + p) (window n p bs) i) s ∙ ap (λ x. and_then x (λ v r. g v o bs r)) s;
-    ends = λ o bs p u q h d. then_ends o bs p u q h (f o bs p) refl d;
+    same = λ bs o n h.
+        let m : a bs ≤ c bs = low bs in
+        ap (λ x. and_then x g) (lf.same bs o n (omega arith)) ∙ then_same bs o n h (f (bs, o)) refl;
+    ends = λ bs o u cs d. then_ends bs o u cs (f (bs, o)) refl d;
   }
 
 -- A read, and then one that asks for as many bytes whatever was read.
 pub next_local : {X Y : Type 0} (a b : Width) (f : Read X) (g : X → Read Y) → Local a f → ((v : X) → Local b (g v))
-    → Local (λ bs p. a bs p + b bs (p + a bs p)) (λ o bs p. and_then (f o bs p) (λ v q. g v o bs q))
-next_local a b f g lf lg = then_local a (λ v. b) (λ bs p. a bs p + b bs (p + a bs p)) f g lf lg
-    (λ o bs p v q h e. ap (λ r. a bs p + b bs r) (sym (lf.ends o bs p v q h e).0))
-    (λ bs p. omega arith)
+    → Local (λ bs. a bs + b (drop (a bs) bs)) (λ bs. and_then (f bs) g)
+next_local a b f g lf lg = then_local a (λ v. b) (λ bs. a bs + b (drop (a bs) bs)) f g lf lg
+    (λ bs o v cs e. ap (λ c. a bs + b c.0) (sym (lf.ends bs o v cs e).0))
+    (λ bs. omega arith)
 
 -- What is made of a value that was read.
-pub made_local : {X Y : Type 0} (w : Width) (f : Read X) (make : X → Y) → Local w f → Local w (λ o bs p. and_then (f o bs p) (λ v q. Ok (make v, q)))
-made_local w f make l = then_local w (λ v bs p. 0) w f (λ v o bs q. Ok (make v, q)) l (λ v. pure_local (make v))
-    (λ o bs p v q h e. omega arith)
-    (λ bs p. omega arith)
+pub made_local : {X Y : Type 0} (w : Width) (f : Read X) (make : X → Y) → Local w f → Local w (λ bs. and_then (f bs) (λ v cs. Ok (make v, cs)))
+made_local w f make l = then_local w (λ v bs. 0) w f (λ v cs. Ok (make v, cs)) l (λ v. pure_local (make v))
+    (λ bs o v cs e. omega arith)
+    (λ bs. omega arith)
 
 -- A step that asks for one byte, taken n times.
-pub times_local : {S : Type 0} (f : S → Read S) → ((s : S) → Local (λ bs p. 1) (f s)) → (n : ℕ) (s : S)
-    → Local (λ bs p. n) (λ o bs p. times n (λ t q. f t o bs q) s p)
+pub times_local : {S : Type 0} (f : S → Read S) → ((s : S) → Local (λ bs. 1) (f s)) → (n : ℕ) (s : S) → Local (λ bs. n) (times n f s)
 times_local f l zero s = pure_local s
-times_local f l (suc n) s = then_local (λ bs p. 1) (λ t bs p. n) (λ bs p. suc n) (f s) (λ t o bs q. times n (λ u r. f u o bs r) t q) (l s) (times_local f l n)
-    (λ o bs p t q h e. omega arith)
-    (λ bs p. omega arith)
+times_local f l (suc n) s = then_local (λ bs. 1) (λ t bs. n) (λ bs. suc n) (f s) (times n f) (l s) (times_local f l n)
+    (λ bs o t cs e. omega arith)
+    (λ bs. omega arith)
 
--- As many bytes from p on as a read asks for, or all there are, say what the bytes say there.
-part_ended : {X : Type 0} (w : Width) (f : Read X) → Local w f → (o : ℕ) (bs : List ℕ) (p q : ℕ) → p ≤ length bs
-    → q ≡ p + min (w bs p) (length bs - p) → (x : Reading X) → moved p x ≡ f o bs p → ended_at (value_of x) q ≡ moved p x
-part_ended w f l o bs p q h a x s = grind (arith, l.ends o bs p)
+-- As many bytes as a read asks for, or all there are, say what the bytes say there.
+part_ended : {X : Type 0} (w : Width) (f : Read X) → Local w f → (bs : List ℕ) (o n k : ℕ) → n ≡ min (w bs) (length bs)
+    → (x : Reading X) → f (bs, o) ≡ x → ended_at (value_of (shortened k x)) (drop n bs, o + n) ≡ x
+part_ended w f l bs o n k a (Err e) s = refl
+part_ended w f l bs o n k a (Ok v) s =
+    let e : (v.1 ≡ (drop (w bs) bs, o + w bs)) × (w bs ≤ length bs) = l.ends bs o v.0 v.1 s in
+    let m : n ≡ w bs = omega (arith, a, e.1) in
+    ap (λ (c : Bytes). Ok (v.0, c)) (ap (λ i. (drop i bs, o + i)) m ∙ sym e.0)
 
-pub part_says : {X : Type 0} (w : Width) (f : Read X) → Local w f → (o : ℕ) (bs : List ℕ) (p n q : ℕ) → p ≤ length bs
-    → n ≡ min (w bs p) (length bs - p) → q ≡ p + n → ended_at (value_of (f (o + p) (take n (drop p bs)) 0)) q ≡ f o bs p
-part_says w f l o bs p n q h a b =
-    let z : p + 0 ≡ p = omega arith in
-    let k : w bs (p + 0) ≡ w bs p = ap (w bs) z in
-    let c : moved p (f (o + p) (take n (drop p bs)) 0) ≡ moved p (f (o + p) (window (w bs p) p bs) 0) = ap (λ m. moved p (f (o + p) (take m (drop p bs)) 0)) a in
-    let s : moved p (f (o + p) (take n (drop p bs)) 0) ≡ f o bs p = c ∙ l.same o bs p (w bs p) 0 (omega arith) (omega arith) ∙ ap (f o bs) z in
-    part_ended w f l o bs p q h (omega arith) (f (o + p) (take n (drop p bs)) 0) s ∙ s
+pub part_says : {X : Type 0} (w : Width) (f : Read X) → Local w f → (bs : List ℕ) (o n : ℕ) → n ≡ min (w bs) (length bs)
+    → ended_at (value_of (f (take n bs, o))) (drop n bs, o + n) ≡ f (bs, o)
+part_says w f l bs o n a =
+    let t : take n bs ≡ take (w bs) bs = grind (arith, take_all) in
+    let s : f (take n bs, o) ≡ shortened (w bs - w bs) (f (bs, o)) = ap (λ cs. f (cs, o)) t ∙ l.same bs o (w bs) (omega arith) in
+    ap (λ x. ended_at (value_of x) (drop n bs, o + n)) s ∙ part_ended w f l bs o n (w bs - w bs) a (f (bs, o)) refl

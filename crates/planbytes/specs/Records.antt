@@ -1,13 +1,13 @@
 -- Going record by record: where a record ends, which bytes it has, and what they say.
-use Rattle.std.specs.Prelude.{◌≡◌, ℕ, ◌+◌, ◌-◌, ◌≤◌, min, cond, List, length, take, drop, Ok, Err, Result, nat_lt, slice_index}
+use Rattle.std.specs.Prelude.{◌≡◌, ℕ, ◌+◌, min, cond, List, length, take, drop, Ok, Result, nat_lt, slice_index}
+use Rattle.bits.specs.Bits.{bit}
 use Rattle.faults.specs.declared.fault.Fault.{Fault}
 use Rattle.planbytes.specs.declared.part.Part.{Part}
-use Rattle.planbytes.specs.Bytes.{Reading, Read, and_then, byte_at, ended_at}
-use Rattle.planbytes.specs.Fields.{stands}
+use Rattle.planbytes.specs.Bytes.{Bytes, Reading, Read, and_then, byte_at, made_of, ended_at}
 
 -- How many bytes a field of n bytes takes.
 abbrev pub width : ℕ → ℕ → ℕ → ℕ
-width map bit n = cond (stands map bit) n 0
+width map place n = cond (bit map place) n 0
 
 -- An element record has its map, and the fields whose bits stand.
 abbrev pub element_size : ℕ → ℕ
@@ -33,30 +33,25 @@ abbrev pub route_size : ℕ → List ℕ → ℕ
 route_size m bs = overlap_place m bs + width m 2 (list_size bs (overlap_place m bs)) + width m 3 1
 
 -- A part of the offered bytes: its bytes, and its offset.
-abbrev pub seen : Part → List ℕ × ℕ
+abbrev pub seen : Part → Bytes
 seen part = (part.bytes.now, part.offset)
 
--- A record at p: as many bytes as its map and what follows ask for, or as there are.
-abbrev pub record_at : (ℕ → List ℕ → ℕ) → Read (List ℕ × ℕ)
-record_at size o bs p =
-    and_then (byte_at o bs p) (λ m q.
-    Ok ((take (min (size m (drop p bs)) (length bs - p)) (drop p bs), o + p), p + min (size m (drop p bs)) (length bs - p)))
+-- The first n bytes.
+abbrev pub first_at : ℕ → Read Bytes
+first_at n bs = Ok ((take n bs.0, bs.1), (drop n bs.0, bs.1 + n))
 
--- The value of a read, without the place after it.
+-- A record: as many bytes as its map and what follows ask for, or as there are.
+abbrev pub record_at : (ℕ → List ℕ → ℕ) → Read Bytes
+record_at size bs = and_then (byte_at bs) (λ m cs. first_at (min (size m bs.0) (length bs.0)) bs)
+
+-- The value of a read, without the bytes left after it.
 abbrev pub value_of : {X : Type 0} → Reading X → Result X Fault
-value_of (Ok v) = Ok v.0
-value_of (Err f) = Err f
+value_of = made_of (λ v. v.0)
 
 -- What the bytes of a record say, read alone.
-abbrev pub said : {X : Type 0} → Read X → List ℕ × ℕ → Result X Fault
-said read part = value_of (read part.1 part.0 0)
+abbrev pub said : {X : Type 0} → Read X → Bytes → Result X Fault
+said read part = value_of (read part)
 
--- A record read alone says what the bytes say in their order, and whoever stands after it stands after what was read.
+-- A record read alone says what the bytes say in their order, and what is left after it is left after what was read.
 abbrev pub InOrder : {X : Type 0} → (ℕ → List ℕ → ℕ) → Read X → Type 0
-InOrder size read = (o : ℕ) (bs : List ℕ) (p : ℕ) → p ≤ length bs
-    → and_then (record_at size o bs p) (λ part q. ended_at (said read part) q) ≡ read o bs p
-
--- What is made of an answer; a fault stays.
-abbrev pub made_of : {X Y : Type 0} → (X → Y) → Result X Fault → Result Y Fault
-made_of f (Ok v) = Ok (f v)
-made_of f (Err e) = Err e
+InOrder size read = (bs : Bytes) → and_then (record_at size bs) (λ part cs. ended_at (said read part) cs) ≡ read bs

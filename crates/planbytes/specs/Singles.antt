@@ -1,66 +1,64 @@
 -- A read of one byte asks for that byte, and one that goes by it for as many more as the byte says.
-use Rattle.std.proofs.Common.{◌≡◌, ℕ, ◌+◌, ◌-◌, ◌<◌, ◌≤◌, min, Bool, cond, List, length, get_or, drop, Ok, Err, sym, ap, ◌∙◌, arith}
+use Rattle.std.proofs.Common.{◌≡◌, ℕ, zero, suc, ◌+◌, ◌-◌, ◌≤◌, Bool, cond, List, [], ◌∷◌, length, take, drop, Ok, Err, sym, refl, ap, ◌∙◌, arith}
 use Rattle.std.proofs.lemmas.Bool.Decides.{nat_tests}
-use Rattle.std.proofs.lemmas.Grind.{common_steps}
-use Rattle.std.proofs.lemmas.List.{get_or-take, get_or-drop}
 use Rattle.faults.specs.declared.fault.Cause.{Cause}
 use Rattle.faults.specs.declared.fault.Fault.{Fault}
-use Rattle.planbytes.specs.Bytes.{fault, Reading, Read, and_then, byte_at}
+use Rattle.planbytes.specs.Bytes.{Bytes, fault, Reading, Read, and_then, byte_at}
 use Rattle.planbytes.specs.Records.{byte_or_none}
-use Rattle.planbytes.specs.Local.{Width, Local, moved, window, then_local}
+use Rattle.planbytes.specs.Local.{Width, Local, shortened, then_local}
 
 -- A read of one byte, whose value is that byte.
 pub record Single (f : Read ℕ) : Type 0 where
-  pub local : Local (λ bs p. 1) f
-  pub value : (o : ℕ) (bs : List ℕ) (p b q : ℕ) → f o bs p ≡ Ok (b, q) → b ≡ byte_or_none bs p
+  pub local : Local (λ bs. 1) f
+  pub value : (bs : List ℕ) (o b : ℕ) (cs : Bytes) → f (bs, o) ≡ Ok (b, cs) → b ≡ byte_or_none bs 0
 
-window_length : (n p : ℕ) (bs : List ℕ) → length (window n p bs) ≡ min n (length bs - p)
-window_length n p bs = grind (arith, common_steps)
+byte_same : (bs : List ℕ) (o n : ℕ) → 1 ≤ n → byte_at (take n bs, o) ≡ shortened (n - 1) (byte_at (bs, o))
+byte_same bs o zero h = absurd (omega (arith, h))
+byte_same [] o (suc n) h = refl
+byte_same (b ∷ bs) o (suc n) h = ap (λ k. Ok (b, (take k bs, o + 1))) (let e : n ≡ suc n - 1 = omega arith in e)
 
-window_getD : (n p : ℕ) (bs : List ℕ) (i : ℕ) → i < min n (length bs - p) → get_or (window n p bs) i 0 ≡ get_or bs (p + i) 0
-window_getD n p bs i h = get_or-take (min n (length bs - p)) (drop p bs) i 0 h ∙ get_or-drop p bs i 0
+byte_ends : (bs : List ℕ) (o b : ℕ) (cs : Bytes) → byte_at (bs, o) ≡ Ok (b, cs) → (cs ≡ (drop 1 bs, o + 1)) × (1 ≤ length bs)
+byte_ends [] o b cs e = absurd (cc)
+byte_ends (c ∷ bs) o b cs e = grind arith
 
-byte_same : (o : ℕ) (bs : List ℕ) (p n i : ℕ) → p + i ≤ length bs → i + 1 ≤ n
-    → moved p (byte_at (o + p) (window n p bs) i) ≡ byte_at o bs (p + i)
-byte_same o bs p n i h k = grind (arith, nat_tests, window_length, window_getD)
+-- The first of some bytes.
+pub byte_first : (b : ℕ) (bs : List ℕ) → b ≡ byte_or_none (b ∷ bs) 0
+byte_first b bs = grind (arith, nat_tests)
+
+byte_value : (bs : List ℕ) (o b : ℕ) (cs : Bytes) → byte_at (bs, o) ≡ Ok (b, cs) → b ≡ byte_or_none bs 0
+byte_value [] o b cs e = absurd (cc)
+byte_value (c ∷ bs) o b cs e = grind (arith, byte_first c bs)
 
 pub byte_single : Single byte_at
-byte_single = record {
-  local = record {
-    same = byte_same;
-    ends = λ o bs p b q h e. grind (arith, nat_tests);
-  };
-  value = λ o bs p b q e. grind (arith, nat_tests);
-}
+byte_single = record { local = record { same = byte_same; ends = byte_ends }; value = byte_value }
 
 -- A value that has to pass a test.
-abbrev judged : {X : Type 0} → (X → Bool) → Fault → X → ℕ → Reading X
-judged test f v q = cond (test v) (Ok (v, q)) (Err f)
+abbrev judged : {X : Type 0} → (X → Bool) → Fault → X → Bytes → Reading X
+judged test f v bs = cond (test v) (Ok (v, bs)) (Err f)
 
--- A read whose value has to pass a test, else a fault at the place before it.
+-- A read whose value has to pass a test, else a fault at the first of the bytes left before it.
 abbrev pub tested : {X : Type 0} → (X → Bool) → Cause → Read X → Read X
-tested test c f o bs p = and_then (f o bs p) (judged test (fault c (o + p)))
+tested test c f bs = and_then (f bs) (judged test (fault c bs.1))
 
-judged_same : {X : Type 0} (test : X → Bool) (c : Cause) (o p i : ℕ) (x : Reading X)
-    → moved p (and_then x (judged test (fault c (o + p + i)))) ≡ and_then (moved p x) (judged test (fault c (o + (p + i))))
-judged_same test c o p i x = grind arith
+judged_same : {X : Type 0} (test : X → Bool) (f : Fault) (n : ℕ) (x : Reading X)
+    → and_then (shortened n x) (judged test f) ≡ shortened n (and_then x (judged test f))
+judged_same test f n x = grind arith
 
-judged_passed : {X : Type 0} (test : X → Bool) (f : Fault) (u : X × ℕ) (x : Reading X) → and_then x (judged test f) ≡ Ok u → x ≡ Ok u
+judged_passed : {X : Type 0} (test : X → Bool) (f : Fault) (u : X × Bytes) (x : Reading X) → and_then x (judged test f) ≡ Ok u → x ≡ Ok u
 judged_passed test f u x d = grind arith
 
 pub tested_single : (f : Read ℕ) (test : ℕ → Bool) (c : Cause) → Single f → Single (tested test c f)
 tested_single f test c s = record {
   local = record {
-    same = λ o bs p n i h k. judged_same test c o p i (f (o + p) (window n p bs) i)
-        ∙ ap (λ x. and_then x (judged test (fault c (o + (p + i))))) (s.local.same o bs p n i h k);
-    ends = λ o bs p b q h e. s.local.ends o bs p b q h (judged_passed test (fault c (o + p)) (b, q) (f o bs p) e);
+    same = λ bs o n h. ap (λ x. and_then x (judged test (fault c o))) (s.local.same bs o n h) ∙ judged_same test (fault c o) (n - 1) (f (bs, o));
+    ends = λ bs o b cs e. s.local.ends bs o b cs (judged_passed test (fault c o) (b, cs) (f (bs, o)) e);
   };
-  value = λ o bs p b q e. s.value o bs p b q (judged_passed test (fault c (o + p)) (b, q) (f o bs p) e);
+  value = λ bs o b cs e. s.value bs o b cs (judged_passed test (fault c o) (b, cs) (f (bs, o)) e);
 }
 
 -- A byte, and then a read that goes by it.
 pub by_local : {X : Type 0} (w : ℕ → Width) (f : Read ℕ) (g : ℕ → Read X) → Single f → ((b : ℕ) → Local (w b) (g b))
-    → Local (λ bs p. 1 + w (byte_or_none bs p) bs (p + 1)) (λ o bs p. and_then (f o bs p) (λ b q. g b o bs q))
-by_local w f g s l = then_local (λ bs p. 1) w (λ bs p. 1 + w (byte_or_none bs p) bs (p + 1)) f g s.local l
-    (λ o bs p b q h e. ap (λ n. 1 + w n bs (p + 1)) (sym (s.value o bs p b q e)) ∙ ap (λ r. 1 + w b bs r) (sym (s.local.ends o bs p b q h e).0))
-    (λ bs p. omega arith)
+    → Local (λ bs. 1 + w (byte_or_none bs 0) (drop 1 bs)) (λ bs. and_then (f bs) g)
+by_local w f g s l = then_local (λ bs. 1) w (λ bs. 1 + w (byte_or_none bs 0) (drop 1 bs)) f g s.local l
+    (λ bs o b cs e. ap (λ n. 1 + w n (drop 1 bs)) (sym (s.value bs o b cs e)) ∙ ap (λ c. 1 + w b c.0) (sym (s.local.ends bs o b cs e).0))
+    (λ bs. omega arith)

@@ -1,8 +1,10 @@
 //! The map of a record: which fields the record has.
 
-ghost use Rattle.std.specs.Prelude.{◌≡◌, ◌<◌, ◌≤◌};
-ghost use Rattle.planbytes.specs.Fields.{stands};
+ghost use Rattle.std.specs.Prelude.{◌≡◌, ◌≤◌};
+ghost use Rattle.bits.specs.Bits.{bit};
 ghost use Rattle.planbytes.specs.Records.{width};
+
+use bits::byte::has_bit;
 
 /// A bit for each field, counted from the lowest, bit 0; it stands where the record has the field.
 #[derive(Clone, Copy)]
@@ -10,19 +12,17 @@ pub(crate) struct FieldMap(pub(crate) u8);
 
 impl FieldMap {
     /// Whether the record has the field of a bit.
-    pub(crate) fn has(self, bit: u8) -> bool
-        requires { bit < 8 }
-        ensures { result ≡ stands self.0 bit }
+    pub(crate) fn has(self, place: u8) -> bool
+        ensures { result ≡ bit self.0 place }
     {
-        (self.0 >> bit) % 2 == 1
+        has_bit(self.0, place)
     }
 
     /// How many bytes the field of a bit takes, which takes `size` where the record has it.
-    pub(crate) fn width(self, bit: u8, size: usize) -> usize
-        requires { bit < 8 }
-        ensures value { result ≡ width self.0 bit size }
+    pub(crate) fn width(self, place: u8, size: usize) -> usize
+        ensures value { result ≡ width self.0 place size }
         ensures bound { result ≤ size }
     {
-        if self.has(bit) { size } else { 0 }
+        if self.has(place) { size } else { 0 }
     }
 }

@@ -1,7 +1,5 @@
 //! A reader that steps through bytes.
 
-ghost use Rattle.std.specs.Prelude.{◌≤◌, length};
-
 pub(crate) mod bytes;
 pub(crate) mod elements;
 pub(crate) mod fields;
@@ -12,10 +10,8 @@ pub(crate) mod routes;
 
 use crate::part::Part;
 
-/// Steps through a part of the offered bytes; `at` of them are taken.
+/// Steps through bytes; `rest` is what is left of them.
 #[derive(Drop)]
 pub(crate) struct Reader<'a> {
-    part: Part<'a>,
-    at: usize,
-    ghost inside: { at ≤ length part.bytes.now },
+    rest: Part<'a>,
 }

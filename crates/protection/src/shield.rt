@@ -9,7 +9,7 @@ use layout::position::Position;
 use std::fmt;
 
 /// An element that a route requests to shield a flank, the position in which it is requested, and whether the route holds it in that position.
-#[derive(Clone, Copy, PartialEq, Eq)]
+#[derive(Clone, Copy, PartialEq, Eq, Default)]
 pub struct Shield {
     pub element: u8,
     pub position: Position,

@@ -1,3 +1,2 @@
 pub mod Readiness
 pub mod Settling
-pub mod DropsAndRaises

@@ -5,7 +5,7 @@ use Rattle.layout.specs.declared.position.Position.{Position}
 use Rattle.field.specs.Meaning.{Meaning, report_of, occupied_of, burning_of}
 use Rattle.sheets.specs.declared.sheet.RouteSheet.{RouteSheet}
 use Rattle.sheets.specs.declared.sheet.Sheets.{Sheets}
-use Rattle.sheets.specs.Lists.{all_of}
+use Rattle.std.specs.List.{list_all}
 use Rattle.sheets.specs.Reading.{route_sheet, need_of, request_of, wanted_by, used_by, element_of, moves}
 use Rattle.holds.specs.declared.interlocking.Interlocking.{Interlocking}
 use Rattle.holds.specs.Positions.{reports}
@@ -44,7 +44,7 @@ lamp_proved t i m (Some e) = burning_of m e || permissive t i e
 -- A route is ready: what it wants of every element is met, every section that it uses is free, and its end lamp is proved.
 abbrev pub sheet_ready : Sheets → RouteSheet → Interlocking → Meaning → ℕ → Bool
 sheet_ready t s i m r =
-    all_of (want_met t s i m r) (wanted_by s) && (all_of (is_free m) (used_by s) && lamp_proved t i m s.end_lamp)
+    list_all (want_met t s i m r) (wanted_by s) && (list_all (is_free m) (used_by s) && lamp_proved t i m s.end_lamp)
 
 abbrev pub ready : Sheets → Interlocking → Meaning → ℕ → Bool
 ready t i m r = sheet_ready t (route_sheet t r) i m r

@@ -1,57 +1,57 @@
--- What settles after every accepted act.
-use Rattle.std.specs.Prelude.{ℕ, zero, suc, Bool, true, false, cond, not, ◌&&◌, ◌||◌}
+-- What settles after every accepted act: clear routes are dropped, and then waiting ones raised, as it is due.
+use Rattle.std.specs.Prelude.{ℕ, zero, suc, Bool, true, false, cond, not, ◌||◌}
 use Rattle.layout.specs.Every.{every}
 use Rattle.field.specs.Meaning.{Meaning}
+use Rattle.sheets.specs.declared.sheet.RouteSheet.{RouteSheet}
 use Rattle.sheets.specs.declared.sheet.Sheets.{Sheets}
-use Rattle.sheets.specs.Reading.{route_count}
+use Rattle.sheets.specs.Reading.{route_count, route_sheet}
 use Rattle.holds.specs.declared.interlocking.Interlocking.{Interlocking}
+use Rattle.holds.specs.declared.state.RouteState.{RouteState}
 use Rattle.holds.specs.States.{is_waiting, is_clear, falls, rises}
 use Rattle.holds.specs.Interlockings.{state_of, with_state}
-use Rattle.readiness.specs.Readiness.{ready}
+use Rattle.readiness.specs.declared.settling.Settling.{Settling}
+use Rattle.readiness.specs.declared.settling.Settling.TheVariants.{Dropping, Raising}
+use Rattle.readiness.specs.Readiness.{sheet_ready}
 
--- A clear route that is not ready becomes dropped.
-abbrev pub drop_one : Sheets → Meaning → Interlocking → ℕ → Interlocking
-drop_one t m i r = cond (is_clear (state_of i r)) (with_state i r (falls (state_of i r) (ready t i m r))) i
+-- Dropping concerns clear routes, raising waiting ones.
+abbrev pub concerns : Settling → RouteState → Bool
+concerns Dropping s = is_clear s
+concerns Raising s = is_waiting s
 
--- A pass over the first n routes, in their order.
-unfoldable pub drop_pass : Sheets → Meaning → Interlocking → ℕ → Interlocking
-drop_pass t m i zero = i
-drop_pass t m i (suc n) = drop_one t m (drop_pass t m i n) n
+-- Dropping leaves a route that is ready, raising one that is not.
+abbrev pub leaves : Settling → Bool → Bool
+leaves Dropping ready = ready
+leaves Raising ready = not ready
 
--- A route, if clear, is ready.
-abbrev pub keeps : Sheets → Meaning → Interlocking → ℕ → Bool
-keeps t m i r = not (is_clear (state_of i r)) || ready t i m r
+-- The state of a route, ready or not, once it is settled: a clear route that is not ready is dropped, a waiting one that is ready is clear.
+abbrev pub state_after : Settling → RouteState → Bool → RouteState
+state_after Dropping s ready = falls s ready
+state_after Raising s ready = rises s ready
 
-unfoldable pub all_keep : Sheets → Meaning → Interlocking → Bool
-all_keep t m i = every (keeps t m i) (route_count t) 0
-
--- Passes until every clear route is ready, n at the most.
-unfoldable pub drops_until : Sheets → Meaning → Interlocking → ℕ → Interlocking
-drops_until t m i zero = i
-drops_until t m i (suc n) = elim (all_keep t m i) [ true ↦ i | false ↦ drops_until t m (drop_pass t m i (route_count t)) n ]
-
--- A waiting route that is ready becomes clear.
-abbrev pub raise_one : Sheets → Meaning → Interlocking → ℕ → Interlocking
-raise_one t m i r = cond (is_waiting (state_of i r)) (with_state i r (rises (state_of i r) (ready t i m r))) i
+-- A route that is concerned takes the state after the drop or the raise.
+abbrev pub settle_one : Settling → Sheets → Meaning → Interlocking → RouteSheet → ℕ → Interlocking
+settle_one w t m i s r =
+    cond (concerns w (state_of i r)) (with_state i r (state_after w (state_of i r) (sheet_ready t s i m r))) i
 
 -- A pass over the first n routes, in their order.
-unfoldable pub raise_pass : Sheets → Meaning → Interlocking → ℕ → Interlocking
-raise_pass t m i zero = i
-raise_pass t m i (suc n) = raise_one t m (raise_pass t m i n) n
+unfoldable pub pass : Settling → Sheets → Meaning → Interlocking → ℕ → Interlocking
+pass w t m i zero = i
+pass w t m i (suc n) = settle_one w t m (pass w t m i n) (route_sheet t n) n
 
--- A route, if waiting, is not ready.
-abbrev pub rests : Sheets → Meaning → Interlocking → ℕ → Bool
-rests t m i r = not (is_waiting (state_of i r) && ready t i m r)
+-- A route, if concerned, is to be left as it is.
+abbrev pub stays : Settling → Sheets → Meaning → Interlocking → RouteSheet → ℕ → Bool
+stays w t m i s r = not (concerns w (state_of i r)) || leaves w (sheet_ready t s i m r)
 
-unfoldable pub all_rest : Sheets → Meaning → Interlocking → Bool
-all_rest t m i = every (rests t m i) (route_count t) 0
+-- Nothing is left to do: when dropping, every clear route is ready; when raising, no waiting one is.
+unfoldable pub all_stay : Settling → Sheets → Meaning → Interlocking → Bool
+all_stay w t m i = every (λ r. stays w t m i (route_sheet t r) r) (route_count t) 0
 
--- Passes until no waiting route is ready, n at the most.
-unfoldable pub raises_until : Sheets → Meaning → Interlocking → ℕ → Interlocking
-raises_until t m i zero = i
-raises_until t m i (suc n) = elim (all_rest t m i) [ true ↦ i | false ↦ raises_until t m (raise_pass t m i (route_count t)) n ]
+-- Passes until nothing is left to do, n at the most.
+unfoldable pub passes_until : Settling → Sheets → Meaning → Interlocking → ℕ → Interlocking
+passes_until w t m i zero = i
+passes_until w t m i (suc n) = elim (all_stay w t m i) [ true ↦ i | false ↦ passes_until w t m (pass w t m i (route_count t)) n ]
 
 -- Clear routes are dropped until every clear route is ready, then waiting routes are raised until none of them is ready.
 -- Each pass but the last drops or raises a route, so as many passes as there are routes are enough.
 abbrev pub settled : Sheets → Meaning → Interlocking → Interlocking
-settled t m i = raises_until t m (drops_until t m i (route_count t)) (route_count t)
+settled t m i = passes_until Raising t m (passes_until Dropping t m i (route_count t)) (route_count t)

@@ -2,6 +2,7 @@
 #![tactic(auto)]
 
 mod passes;
+mod planned;
 mod readiness;
-mod settling;
+pub mod settling;
 pub mod yard;

@@ -2,24 +2,24 @@
 
 ghost use Rattle.std.specs.Prelude.{◌≡◌};
 ghost use Rattle.sheets.specs.Reading.{route_count};
-ghost use Rattle.readiness.specs.Settling.{settled};
-ghost use Rattle.readiness.specs.DropsAndRaises.{settle_one, stays, pass, all_stay, passes_until};
+ghost use Rattle.readiness.specs.Settling.{settle_one, pass, stays, all_stay, passes_until, settled};
 
+use crate::planned::PlannedRoute;
 use crate::settling::Settling;
 use crate::yard::Yard;
 use field::field::Field;
-use sheets::sheet::{RouteSheet, Sheets};
+use sheets::sheet::Sheets;
 
 impl<F: Field> Yard<F> {
     /// Drops or raises a route, if that is due.
-    fn settle_one(&mut self, sheets: &Sheets, settling: Settling, sheet: &RouteSheet, route: usize)
-        ensures { self.new ≡ record self.old { interlocking = settle_one settling sheets.now (F.meaning self.old.field) self.old.interlocking sheet.now route } }
+    fn settle_one(&mut self, settling: Settling, route: PlannedRoute)
+        ensures { self.new ≡ record self.old { interlocking = settle_one settling route.entry.sheets.now (F.meaning self.old.field) self.old.interlocking route.entry.sheet.now route.entry.number } }
     {
-        let state = self.interlocking.state(route);
+        let state = self.interlocking.state(route.number);
         if settling.concerns(state) {
-            let ready = self.is_ready(sheets, sheet, route);
+            let ready = self.is_ready(route);
             self.interlocking
-                .change(route, settling.state_after(state, ready));
+                .change(route.number, settling.state_after(state, ready));
         }
     }
 
@@ -28,24 +28,37 @@ impl<F: Field> Yard<F> {
     fn pass(&mut self, sheets: &Sheets, settling: Settling)
         ensures { self.new ≡ record self.old { interlocking = pass settling sheets.now (F.meaning self.old.field) self.old.interlocking (route_count sheets.now) } }
     {
-        for (route, sheet) in sheets.routes.as_slice().iter().enumerate() {
-            self.settle_one(sheets, settling, sheet, route);
+        for (number, sheet) in sheets.routes.as_slice().iter().enumerate() {
+            let route = PlannedRoute {
+                number,
+                sheet,
+                sheets,
+            };
+            self.settle_one(settling, route);
         }
     }
 
     /// Whether a route, if it is concerned, is to be left as it is.
-    fn stays(&self, sheets: &Sheets, settling: Settling, sheet: &RouteSheet, route: usize) -> bool
-        ensures { result ≡ stays settling sheets.now (F.meaning self.now.field) self.now.interlocking sheet.now route }
+    fn stays(&self, settling: Settling, route: PlannedRoute) -> bool
+        ensures { result ≡ stays settling route.entry.sheets.now (F.meaning self.now.field) self.now.interlocking route.entry.sheet.now route.entry.number }
     {
-        !settling.concerns(self.interlocking.state(route))
-            || settling.leaves(self.is_ready(sheets, sheet, route))
+        !settling.concerns(self.interlocking.state(route.number))
+            || settling.leaves(self.is_ready(route))
     }
 
+    /// Whether there is nothing left to drop, or to raise.
     fn all_stay(&self, sheets: &Sheets, settling: Settling) -> bool
         ensures { result ≡ all_stay settling sheets.now (F.meaning self.now.field) self.now.interlocking }
     {
         let routes = sheets.routes.as_slice();
-        routes.iter().enumerate().all(|(route, sheet)| self.stays(sheets, settling, sheet, route))
+        routes.iter().enumerate().all(|(number, sheet)| {
+            let route = PlannedRoute {
+                number,
+                sheet,
+                sheets,
+            };
+            self.stays(settling, route)
+        })
     }
 
     /// Passes over the routes until there is nothing left to drop, or to raise; there are never more passes to do than routes.

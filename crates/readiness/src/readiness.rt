@@ -2,82 +2,84 @@
 
 ghost use Rattle.std.specs.Prelude.{◌≡◌};
 ghost use Rattle.readiness.specs.Readiness.{need_met, shields, request_met, want_met, is_free, lamp_proved, sheet_ready};
-ghost use Rattle.sheets.specs.Lists.{all_of};
+ghost use Rattle.std.specs.List.{list_all};
 ghost use Rattle.sheets.specs.Reading.{wanted_by, used_by};
 
+use crate::planned::{PlannedElement, PlannedRoute};
 use crate::yard::Yard;
 use field::field::Field;
 use layout::position::Position;
-use sheets::sheet::{ElementSheet, RouteSheet, Sheets};
+use sheets::sheet::{RouteSheet, Sheets};
 
 impl<F: Field> Yard<F> {
     /// Whether a point or derailer that the route itself needs is held by it and reported right.
-    fn is_need_met(
-        &self,
-        sheet: ElementSheet,
-        route: usize,
-        element: u8,
-        need: Option<Position>,
-    ) -> bool
-        ensures { result ≡ need_met sheet.kind self.now.interlocking (F.meaning self.now.field) route element need }
+    fn is_need_met(&self, route: usize, element: PlannedElement, need: Option<Position>) -> bool
+        ensures { result ≡ need_met element.sheet.kind self.now.interlocking (F.meaning self.now.field) route element.number need }
     {
         need.is_none_or(|position| {
-            !sheet.moves()
-                || self.interlocking.is_held_in(route, element, position)
-                    && self.field.report(element) == Some(position)
+            !element.sheet.moves()
+                || self
+                    .interlocking
+                    .is_held_in(route, element.number, position)
+                    && self.field.report(element.number) == Some(position)
         })
     }
 
     /// Whether a point or derailer is reported in its position, or a signal has its stop lamp burning.
-    fn is_shielding(&self, sheet: ElementSheet, element: u8, position: Position) -> bool
-        ensures { result ≡ shields sheet.kind (F.meaning self.now.field) element position }
+    fn is_shielding(&self, element: PlannedElement, position: Position) -> bool
+        ensures { result ≡ shields element.sheet.kind (F.meaning self.now.field) element.number position }
     {
-        if sheet.moves() {
-            self.field.report(element) == Some(position)
+        if element.sheet.moves() {
+            self.field.report(element.number) == Some(position)
         } else {
-            self.field.is_burning(element)
+            self.field.is_burning(element.number)
         }
     }
 
     /// Whether a request is granted, and the element shields.
     fn is_request_met(
         &self,
-        sheet: ElementSheet,
         route: usize,
-        element: u8,
+        element: PlannedElement,
         request: Option<Position>,
     ) -> bool
-        ensures { result ≡ request_met sheet.kind self.now.interlocking (F.meaning self.now.field) route element request }
+        ensures { result ≡ request_met element.sheet.kind self.now.interlocking (F.meaning self.now.field) route element.number request }
     {
         request.is_none_or(|position| {
-            self.interlocking.is_held_in(route, element, position)
-                && self.is_shielding(sheet, element, position)
+            self.interlocking
+                .is_held_in(route, element.number, position)
+                && self.is_shielding(element, position)
         })
     }
 
     /// Whether all that a route wants of an element is met.
-    fn is_want_met(&self, sheets: &Sheets, sheet: &RouteSheet, route: usize, element: u8) -> bool
-        ensures { result ≡ want_met sheets.now sheet.now self.now.interlocking (F.meaning self.now.field) route element }
+    fn is_want_met(&self, route: PlannedRoute, number: u8) -> bool
+        ensures { result ≡ want_met route.entry.sheets.now route.entry.sheet.now self.now.interlocking (F.meaning self.now.field) route.entry.number number }
     {
-        let want = sheet.want(element);
-        let kind = sheets.element(element);
-        self.is_need_met(kind, route, element, want.need)
-            && self.is_request_met(kind, route, element, want.request)
+        let want = route.sheet.want(number);
+        let element = PlannedElement {
+            number,
+            sheet: route.sheets.element(number),
+        };
+        self.is_need_met(route.number, element, want.need)
+            && self.is_request_met(route.number, element, want.request)
     }
 
-    fn are_wants_met(&self, sheets: &Sheets, sheet: &RouteSheet, route: usize) -> bool
-        ensures { result ≡ all_of (want_met sheets.now sheet.now self.now.interlocking (F.meaning self.now.field) route) (wanted_by sheet.now) }
+    /// Whether all that a route wants of every element is met.
+    fn are_wants_met(&self, route: PlannedRoute) -> bool
+        ensures { result ≡ list_all (want_met route.entry.sheets.now route.entry.sheet.now self.now.interlocking (F.meaning self.now.field) route.entry.number) (wanted_by route.entry.sheet.now) }
     {
-        sheet
+        route
+            .sheet
             .wanted
             .as_slice()
             .iter()
-            .all(|element| self.is_want_met(sheets, sheet, route, *element))
+            .all(|element| self.is_want_met(route, *element))
     }
 
     /// Whether every section that a route uses is free.
     fn are_sections_free(&self, sheet: &RouteSheet) -> bool
-        ensures { result ≡ all_of (is_free (F.meaning self.now.field)) (used_by sheet.now) }
+        ensures { result ≡ list_all (is_free (F.meaning self.now.field)) (used_by sheet.now) }
     {
         sheet
             .used
@@ -96,11 +98,11 @@ impl<F: Field> Yard<F> {
     }
 
     /// Whether a route is ready.
-    pub(crate) fn is_ready(&self, sheets: &Sheets, sheet: &RouteSheet, route: usize) -> bool
-        ensures { result ≡ sheet_ready sheets.now sheet.now self.now.interlocking (F.meaning self.now.field) route }
+    pub(crate) fn is_ready(&self, route: PlannedRoute) -> bool
+        ensures { result ≡ sheet_ready route.entry.sheets.now route.entry.sheet.now self.now.interlocking (F.meaning self.now.field) route.entry.number }
     {
-        self.are_wants_met(sheets, sheet, route)
-            && self.are_sections_free(sheet)
-            && self.is_lamp_proved(sheets, sheet.end_lamp)
+        self.are_wants_met(route)
+            && self.are_sections_free(route.sheet)
+            && self.is_lamp_proved(route.sheets, route.sheet.end_lamp)
     }
 }

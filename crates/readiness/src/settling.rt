@@ -1,13 +1,13 @@
 //! The two ways of settling.
 
 ghost use Rattle.std.specs.Prelude.{◌≡◌};
-ghost use Rattle.readiness.specs.DropsAndRaises.{concerns, leaves, state_after};
+ghost use Rattle.readiness.specs.Settling.{concerns, leaves, state_after};
 
 use holds::state::RouteState;
 
 /// What is done with the routes: clear ones that are not ready are dropped, waiting ones that are ready are raised.
 #[derive(Clone, Copy)]
-pub(crate) enum Settling {
+pub enum Settling {
     Dropping,
     Raising,
 }

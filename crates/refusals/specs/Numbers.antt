@@ -1,5 +1,5 @@
--- The number of each refusal, and the refusal in an answer.
-use Rattle.std.specs.Prelude.{ℕ, Some, None, Ok, Err, Option, Result}
+-- The number of each refusal.
+use Rattle.std.specs.Prelude.{ℕ}
 use Rattle.refusals.specs.declared.refusal.Refusal.{Refusal}
 use Rattle.refusals.specs.declared.refusal.Refusal.TheVariants as refusal
 
@@ -12,8 +12,3 @@ number_of refusal.NotStanding = 14
 number_of refusal.PathOccupied = 15
 number_of refusal.NotOfThePlan = 16
 number_of refusal.ListTooShort = 17
-
--- The refusal that an answer is, if it is one.
-abbrev pub refusal_in : {X : Type 0} → Result X Refusal → Option Refusal
-refusal_in (Ok x) = None
-refusal_in (Err r) = Some r

@@ -2,6 +2,7 @@
 
 ghost use Rattle.std.specs.Prelude.{◌≡◌};
 ghost use Rattle.refusals.specs.Numbers.{number_of};
+ghost use Rattle.refusals.specs.Texts.{words_of};
 
 use std::error::Error;
 use std::fmt;
@@ -34,12 +35,12 @@ impl Refusal {
     {
         self as u8
     }
-}
 
-impl fmt::Display for Refusal {
-    fn fmt<W: fmt::Write>(&self, f: &mut fmt::Formatter<W>) -> fmt::Result {
-        let number = self.number();
-        let words = match self {
+    /// Why, in words.
+    fn words(self) -> &'static str
+        ensures { result.now ≡ words_of self }
+    {
+        match self {
             Refusal::NoSuchRoute => "no such route",
             Refusal::StandsAlready => "the route stands already",
             Refusal::SectionInUse => "another route uses a section of it",
@@ -48,7 +49,19 @@ impl fmt::Display for Refusal {
             Refusal::PathOccupied => "a section of its path is occupied",
             Refusal::NotOfThePlan => "the plan has no such number, or there is no such value",
             Refusal::ListTooShort => "a list is too short",
-        };
+        }
+    }
+}
+
+impl fmt::Display for Refusal {
+    ghost use Rattle.std.specs.Prelude.{Some};
+    ghost use Rattle.refusals.specs.Texts.{text_of};
+
+    ghost output = { λ refusal. Some (text_of refusal) };
+
+    fn fmt<W: fmt::Write>(&self, f: &mut fmt::Formatter<W>) -> fmt::Result {
+        let number = self.number();
+        let words = self.words();
         write!(f, "refused {number}, {words}")
     }
 }

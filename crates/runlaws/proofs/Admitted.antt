@@ -1,6 +1,8 @@
 -- What a set may be refused for, that a refusal changes nothing, and that one signal starts one standing route.
-use Rattle.std.proofs.Common.{◌≡◌, ℕ, suc, ◌<◌, Bool, true, false, cond, not, ◌||◌, ltb, ◌⊎◌, List, [], ◌∷◌, get_or, Some, None, Option, sym, refl, ap, ◌∙◌, inl, inr, ⊎_elim, arith}
-use Rattle.std.proofs.lemmas.Bool.{cases_Bool, and_parts, and_from, or_cases, or_left, or_right, both_ways, true≢false, not-true, not_from_false, eq-eqb, lt-ltb, cond-true, cond-false}
+use Rattle.std.proofs.Common.{◌≡◌, ℕ, suc, ◌<◌, Bool, true, false, cond, not, ◌||◌, ltb, nat_eq, ◌⊎◌, List, [], ◌∷◌, get_or, Some, None, Option, sym, refl, ap, ◌∙◌, inl, inr, ⊎_elim, arith}
+use Rattle.std.specs.List.{list_all}
+use Rattle.std.specs.Option.{option_eq}
+use Rattle.std.proofs.lemmas.Bool.{cases_Bool, and_parts, and_from, or_cases, or_left, or_right, both_ways, true≢false, not-true, not_from_false, lt-ltb, cond-true, cond-false}
 use Rattle.layout.specs.declared.position.Position.{Position}
 use Rattle.layout.proofs.EveryTurn.{every_each, every_from}
 use Rattle.field.specs.Meaning.{Meaning}
@@ -13,26 +15,27 @@ use Rattle.sheets.specs.Reading.{route_count, route_sheet, has_route, need_of, o
 use Rattle.holds.specs.declared.hold.Hold.{Hold}
 use Rattle.holds.specs.declared.interlocking.Interlocking.{Interlocking}
 use Rattle.holds.specs.Positions.{same}
-use Rattle.holds.specs.RouteSets.{contains, none_true, is_empty}
+use Rattle.holds.specs.RouteSets.{contains, is_empty}
 use Rattle.holds.specs.Holds.{open_to}
 use Rattle.holds.specs.States.{stands}
 use Rattle.holds.specs.Interlockings.{hold_of, state_of}
-use Rattle.holds.specs.Refusing.{is_number, excuses, clashes, clear_of, apart, admits, all_admit, fits_hold, fits, all_fit, set_refusal}
+use Rattle.holds.specs.Refusing.{excuses, clashes, clear_of, apart, admits, all_admit, fits_hold, fits, all_fit, set_refusal}
 use Rattle.acts.specs.declared.act.Act.TheVariants as act
 use Rattle.acts.specs.Situations.{situation}
 use Rattle.acts.specs.Answers.{answer}
 use Rattle.acts.specs.Acts.{after, unless, step_orders, orders_unless}
 use Rattle.runlaws.specs.Lawful.{Uses, Excused, Lawful}
 use Rattle.runlaws.specs.Beside.{Agree, Alike, NoWantRefuses, SetFree, SetExactly, AdmitsOverLocked, RefusedChangesNothing, OneStandingStart}
-use Rattle.runlaws.proofs.Lists.{all_of_each, all_of_from}
+use Rattle.sheets.proofs.SomeNumber.{is_number}
+use Rattle.runlaws.proofs.Lists.{list_all_each, list_all_from}
 use Rattle.runlaws.proofs.Granted.{same_self, same_true, none_true_at}
 use Rattle.runlaws.proofs.Coherent.{set_accepted, new_apart}
 use Rattle.runlaws.proofs.Runs.{starts_one, run_coherent}
 
 excuses_from : (t : Sheets) (a b x : ℕ) → Excused t a b x → excuses (route_sheet t a) (route_sheet t b) x ≡ true
 excuses_from t a b x h =
-    and_from (is_number (route_sheet t a).last_signal (route_sheet t b).first) (not (on_path (route_sheet t a) x))
-    (ap (λ o. is_number o (route_sheet t b).first) h.0 ∙ eq-eqb (route_sheet t b).first (route_sheet t b).first refl)
+    and_from (option_eq nat_eq (route_sheet t a).last_signal (Some (route_sheet t b).first)) (not (on_path (route_sheet t a) x))
+    (is_number (route_sheet t a).last_signal (route_sheet t b).first h.0)
     (not_from_false (on_path (route_sheet t a) x) h.1)
 
 clear_from : (t : Sheets) (a b x : ℕ) → (Uses t b x → Excused t a b x ⊎ Excused t b a x) → clear_of (route_sheet t a) (route_sheet t b) x ≡ true
@@ -51,7 +54,7 @@ clear_from t a b x h =
     (λ (f : clash ≡ false). not_from_false clash f)
     (cases_Bool clash)
 
-none_true_from : (xs : List Bool) → ((k : ℕ) → get_or xs k false ≡ false) → none_true xs ≡ true
+none_true_from : (xs : List Bool) → ((k : ℕ) → get_or xs k false ≡ false) → list_all not xs ≡ true
 none_true_from [] h = refl
 none_true_from (true ∷ xs) h = absurd (true≢false (h 0))
 none_true_from (false ∷ xs) h = none_true_from xs (λ k. h (suc k))
@@ -69,17 +72,17 @@ unfolding all_admit
 free_accepted t law i m r free =
     let sheet = route_sheet t r in
     let admit : all_admit t sheet i ≡ true =
-    every_from (admits t sheet i) (route_count t) 0
+    every_from (λ q. admits sheet i q (route_sheet t q)) (route_count t) 0
     (λ q _ below.
     let up = stands (state_of i q) in
     ⊎_elim
     (λ (st : up ≡ true).
     or_right (not up) (apart sheet (route_sheet t q))
-    (all_of_from (clear_of sheet (route_sheet t q)) (used_by sheet)
+    (list_all_from (clear_of sheet (route_sheet t q)) (used_by sheet)
     (λ x h. clear_from t r q x (free.sections q x (lt-ltb q (route_count t) (omega (arith, below))) st (law.listed r x free.route h)))))
     (λ (st : up ≡ false). or_left (not up) (apart sheet (route_sheet t q)) (not_from_false up st))
     (cases_Bool up)) in
-    let fit : all_fit sheet i ≡ true = all_of_from (fits sheet i) (wanted_by sheet) (λ e _. fits_from (hold_of i e) (need_of sheet e) (free.holds e)) in
+    let fit : all_fit sheet i ≡ true = list_all_from (fits sheet i) (wanted_by sheet) (λ e _. fits_from (hold_of i e) (need_of sheet e) (free.holds e)) in
     let sections = cond (all_fit sheet i) None (Some refusal.HeldOtherwise) in
     cond-true (has_route t r) (set_refusal t sheet r i) (Some refusal.NoSuchRoute) free.route ∙
     (cond-false (stands (state_of i r)) (Some refusal.StandsAlready) (cond (all_admit t sheet i) sections (Some refusal.SectionInUse)) free.new ∙
@@ -95,7 +98,7 @@ accepted_free t law i m r h =
       holds = λ e p need.
           let hold = hold_of i e in
           let room : open_to hold p ≡ true =
-          ap (fits_hold hold) (sym need) ∙ all_of_each (fits (route_sheet t r) i) (wanted_by (route_sheet t r)) ok.fit e (law.needed r e p ok.route need).1 in
+          ap (fits_hold hold) (sym need) ∙ list_all_each (fits (route_sheet t r) i) (wanted_by (route_sheet t r)) ok.fit e (law.needed r e p ok.route need).1 in
           ⊎_elim
           (λ (empty : is_empty hold.routes ≡ true). inl (λ q. none_true_at hold.routes.members q empty))
           (λ (y : same hold.position p ≡ true). inr (same_true hold.position p y))
@@ -156,22 +159,22 @@ module _ (t u : Sheets) (law : Lawful t) (h : Alike t u) (i : Interlocking) (r :
   admit_over : all_admit t (route_sheet t r) i ≡ true → all_admit u (route_sheet u r) i ≡ true
   unfolding all_admit
   admit_over e =
-      every_from (admits u (route_sheet u r) i) (route_count u) 0
+      every_from (λ q. admits (route_sheet u r) i q (route_sheet u q)) (route_count u) 0
       (λ q _ below.
       let same = h.count in
       let up = stands (state_of i q) in
       let within : q < route_count t = omega (arith, below, same) in
       sym (ap (λ b. not up || b) (apart_same (route_sheet t r) (route_sheet t q) (route_sheet u r) (route_sheet u q) (h.routes r route) (h.routes q (lt-ltb q (route_count t) within)))) ∙
-      every_each (admits t (route_sheet t r) i) (route_count t) 0 e q (omega arith) (omega arith))
+      every_each (λ q. admits (route_sheet t r) i q (route_sheet t q)) (route_count t) 0 e q (omega arith) (omega arith))
 
   fit_over : all_fit (route_sheet t r) i ≡ true → all_fit (route_sheet u r) i ≡ true
-  fit_over e = all_of_from (fits (route_sheet u r) i) (wanted_by (route_sheet u r)) (λ k _. go k (need_of (route_sheet u r) k) refl)
+  fit_over e = list_all_from (fits (route_sheet u r) i) (wanted_by (route_sheet u r)) (λ k _. go k (need_of (route_sheet u r) k) refl)
     where
       go : (k : ℕ) (w : Option Position) → need_of (route_sheet u r) k ≡ w → fits (route_sheet u r) i k ≡ true
       go k None is = ap (fits_hold (hold_of i k)) is
       go k (Some p) is =
           sym (ap (fits_hold (hold_of i k)) ((h.routes r route).needs k)) ∙
-          all_of_each (fits (route_sheet t r) i) (wanted_by (route_sheet t r)) e k (law.needed r k p route ((h.routes r route).needs k ∙ is)).1
+          list_all_each (fits (route_sheet t r) i) (wanted_by (route_sheet t r)) e k (law.needed r k p route ((h.routes r route).needs k ∙ is)).1
 
 same_truth : (a b : Bool) → (a ≡ true → b ≡ true) → (b ≡ true → a ≡ true) → a ≡ b
 same_truth true b to from = sym (to refl)

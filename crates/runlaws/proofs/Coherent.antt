@@ -1,7 +1,8 @@
 -- What every situation of a run has, and that each act keeps it.
-use Rattle.std.proofs.Common.{◌≡◌, ℕ, zero, suc, ◌<◌, ◌≤◌, Bool, true, false, cond, not, ◌&&◌, ◌||◌, ◌≢◌, ◌⊎◌, List, length, get_or, set, replicate, Some, None, Option, sym, refl, ap, ◌∙◌, subst, inl, inr, ⊎_elim, arith}
+use Rattle.std.proofs.Common.{◌≡◌, ℕ, zero, suc, ◌<◌, ◌≤◌, Bool, true, false, cond, not, nat_eq, ◌&&◌, ◌||◌, ◌≢◌, ◌⊎◌, List, length, get_or, set, replicate, Some, None, Option, sym, refl, ap, ◌∙◌, subst, inl, inr, ⊎_elim, arith}
 use Rattle.std.proofs.lemmas.List.{get_or-set_same, get_or-set_other, length-set, get_or_past}
-use Rattle.std.proofs.lemmas.Bool.{cases_eq, cases_lt, or_cases, and_parts, and_cases, both_ways, false≢true, true≢false, not-true, not-false, ltb-true, eqb-true}
+use Rattle.std.proofs.lemmas.Option.{none-some}
+use Rattle.std.proofs.lemmas.Bool.{cases_eq, cases_lt, or_cases, and_parts, and_cases, both_ways, false≢true, true≢false, not-true, not-false, ltb-true}
 use Rattle.layout.specs.declared.position.Position.{Position}
 use Rattle.layout.proofs.EveryTurn.{every_each}
 use Rattle.walks.specs.Exactly.{In}
@@ -19,7 +20,7 @@ use Rattle.holds.specs.Holds.{free_hold}
 use Rattle.holds.specs.States.{stands, waits_again}
 use Rattle.holds.specs.Interlockings.{idle, hold_of, held_by, state_of, with_state}
 use Rattle.holds.specs.Granting.{needs_granted, taken_up, tried_again, given_up}
-use Rattle.holds.specs.Refusing.{is_number, excuses, clashes, clear_of, apart, admits, all_admit, fits, all_fit, set_refusal, clear_refusal}
+use Rattle.holds.specs.Refusing.{excuses, clashes, clear_of, apart, admits, all_admit, fits, all_fit, set_refusal, clear_refusal}
 use Rattle.readiness.specs.Readiness.{ready}
 use Rattle.readiness.specs.Settling.{settled}
 use Rattle.acts.specs.declared.act.Act.{Act}
@@ -29,7 +30,9 @@ use Rattle.acts.specs.Answers.{answer, release_refusal}
 use Rattle.acts.specs.Acts.{after, unless, performed}
 use Rattle.runlaws.specs.Lawful.{Uses, Excused, Lawful}
 use Rattle.runlaws.specs.Settled.{at, with_states}
-use Rattle.runlaws.proofs.Lists.{all_of_each, set_case}
+use Rattle.std.specs.Option.{option_eq}
+use Rattle.sheets.proofs.SomeNumber.{number_is}
+use Rattle.runlaws.proofs.Lists.{list_all_each, set_case}
 use Rattle.runlaws.proofs.Readying.{rested_in, settled_is, rested, rested_length}
 use Rattle.runlaws.proofs.Granted.{Sized, Grown, Shrunk, grown_then, grown_requests, grown_needs, needs_held, shrunk_all, all_out}
 
@@ -118,13 +121,9 @@ settled_coherent t m i s =
     record { sound = end; clear = λ r c. (rested t m i).clear r (route_counts t r (end.routes r (ap stands c))) c }
 
 -- excuses
-number_is : (o : Option ℕ) (e : ℕ) → is_number o e ≡ true → o ≡ Some e
-number_is None e h = absurd (false≢true h)
-number_is (Some k) e h = ap Some (eqb-true k e h)
-
 excused : (t : Sheets) (a b x : ℕ) → excuses (route_sheet t a) (route_sheet t b) x ≡ true → Excused t a b x
 excused t a b x h =
-    let parts = and_parts (is_number (route_sheet t a).last_signal (route_sheet t b).first) (not (on_path (route_sheet t a) x)) h in
+    let parts = and_parts (option_eq nat_eq (route_sheet t a).last_signal (Some (route_sheet t b).first)) (not (on_path (route_sheet t a) x)) h in
     (number_is (route_sheet t a).last_signal (route_sheet t b).first parts.0, not-true (on_path (route_sheet t a) x) parts.1)
 
 no_clash : (t : Sheets) (a b x : ℕ) → clear_of (route_sheet t a) (route_sheet t b) x ≡ true → Uses t b x → Excused t a b x ⊎ Excused t b a x
@@ -142,16 +141,12 @@ no_clash t a b x h ub =
     (and_cases (uses (route_sheet t b) x) (not (one || two)) clean)
 
 -- answers
-abbrev refuses : Option Refusal → Bool
-refuses None = false
-refuses (Some x) = true
-
 passes_test : (b : Bool) (x : Option Refusal) (y : Refusal) → cond b x (Some y) ≡ None → (b ≡ true) × (x ≡ None)
 passes_test true x y e = (refl, e)
-passes_test false x y e = absurd (true≢false (ap refuses e))
+passes_test false x y e = absurd (none-some y (sym e))
 
 fails_test : (b : Bool) (x : Refusal) (y : Option Refusal) → cond b (Some x) y ≡ None → (b ≡ false) × (y ≡ None)
-fails_test true x y e = absurd (true≢false (ap refuses e))
+fails_test true x y e = absurd (none-some x (sym e))
 fails_test false x y e = (refl, e)
 
 -- a route is the one whose state was written, or has the state that it had
@@ -186,7 +181,7 @@ module _ (t : Sheets) (i : Interlocking) (r : ℕ) (ok : Accepted t i r) where
   start = with_state i r Waiting
 
   fit_each : (k : ℕ) → In k (wanted_by (route_sheet t r)) → fits (route_sheet t r) start k ≡ true
-  fit_each k h = all_of_each (fits (route_sheet t r) i) (wanted_by (route_sheet t r)) ok.fit k h
+  fit_each k h = list_all_each (fits (route_sheet t r) i) (wanted_by (route_sheet t r)) ok.fit k h
 
   pub grown_set : Grown r (with_state i r Waiting) (taken_up (route_sheet t r) r i)
   grown_set =
@@ -199,11 +194,11 @@ module _ (t : Sheets) (i : Interlocking) (r : ℕ) (ok : Accepted t i r) where
         (q x : ℕ) → has_route t q ≡ true → stands (state_of i q) ≡ true → Uses t r x → Uses t q x → Excused t r q x ⊎ Excused t q r x
     unfolding all_admit
     new_apart q x route st ur uq =
-        let admitted = every_each (admits t (route_sheet t r) i) (route_count t) 0 ok.admit q (omega arith) (omega (arith, route_counts t q route)) in
+        let admitted = every_each (λ q. admits (route_sheet t r) i q (route_sheet t q)) (route_count t) 0 ok.admit q (omega arith) (omega (arith, route_counts t q route)) in
         ⊎_elim
         (λ (n : not (stands (state_of i q)) ≡ true). absurd (both_ways (stands (state_of i q)) (not-true (stands (state_of i q)) n) st))
         (λ (clear : apart (route_sheet t r) (route_sheet t q) ≡ true).
-        no_clash t r q x (all_of_each (clear_of (route_sheet t r) (route_sheet t q)) (used_by (route_sheet t r)) clear x (law.used r x ok.route ur).1) uq)
+        no_clash t r q x (list_all_each (clear_of (route_sheet t r) (route_sheet t q)) (used_by (route_sheet t r)) clear x (law.used r x ok.route ur).1) uq)
         (or_cases (not (stands (state_of i q))) (apart (route_sheet t r) (route_sheet t q)) admitted)
 
     pub sound_set : Sound t i → Sound t (taken_up (route_sheet t r) r i)

@@ -1,5 +1,6 @@
 -- What grants make of the holds: a route comes into holds, and nobody's hold is lost or changes its position.
-use Rattle.std.proofs.Common.{◌≡◌, ℕ, zero, suc, ◌<◌, Bool, true, false, ◌≢◌, List, [], ◌∷◌, length, get_or, set, Some, None, fold, Option, sym, refl, ap, ◌∙◌, subst, inl, inr, ⊎_elim, arith}
+use Rattle.std.proofs.Common.{◌≡◌, ℕ, zero, suc, ◌<◌, Bool, true, false, not, ◌≢◌, List, [], ◌∷◌, length, get_or, set, Some, None, fold, Option, sym, refl, ap, ◌∙◌, subst, inl, inr, ⊎_elim, arith}
+use Rattle.std.specs.List.{list_all}
 use Rattle.std.proofs.lemmas.List.{get_or-set_same, get_or-set_other, length-set}
 use Rattle.std.proofs.lemmas.Bool.{cases_eq, cond_both, or_cases, or_right, both_ways, false≢true}
 use Rattle.layout.specs.declared.position.Position.{Position}
@@ -11,7 +12,7 @@ use Rattle.holds.specs.declared.hold.Hold.{Hold}
 use Rattle.holds.specs.declared.interlocking.Interlocking.{Interlocking}
 use Rattle.holds.specs.declared.routes.RouteSet.{RouteSet}
 use Rattle.holds.specs.Positions.{same}
-use Rattle.holds.specs.RouteSets.{contains, with_route, none_true, is_empty}
+use Rattle.holds.specs.RouteSets.{contains, with_route, is_empty}
 use Rattle.holds.specs.Holds.{free_hold, granted, left_by, open_to}
 use Rattle.holds.specs.Interlockings.{hold_of, held_by, with_hold}
 use Rattle.holds.specs.Granting.{joined_by, hold_needed, grant_need, hold_requested, grant_request, take_out, taken_out}
@@ -28,7 +29,7 @@ pub same_self : (p : Position) → same p p ≡ true
 same_self position.Plus = refl
 same_self position.Minus = refl
 
-pub none_true_at : (xs : List Bool) (k : ℕ) → none_true xs ≡ true → get_or xs k false ≡ false
+pub none_true_at : (xs : List Bool) (k : ℕ) → list_all not xs ≡ true → get_or xs k false ≡ false
 none_true_at [] k t = refl
 none_true_at (true ∷ xs) k t = absurd (false≢true t)
 none_true_at (false ∷ xs) zero t = refl
@@ -228,7 +229,7 @@ out_one i r e within =
 
 pub all_out : (i : Interlocking) (r n : ℕ) → Sized i → (k : ℕ) → k < n → k < 96 → held_by (taken_out i r n) r k ≡ false
 unfolding taken_out
-all_out i r zero s k below few = absurd (let no : ⊥ = omega arith in no)
+all_out i r zero s k below few = absurd (omega arith)
 all_out i r (suc n) s k below few =
     let j = taken_out i r n in
     let long = ((shrunk_all i r n).sized s).holds in

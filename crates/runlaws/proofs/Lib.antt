@@ -1,5 +1,6 @@
 pub mod Lists
 pub mod Passes
+pub mod Taken
 pub mod Settles
 pub mod Readying
 pub mod Orderless

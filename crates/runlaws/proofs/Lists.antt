@@ -3,18 +3,18 @@ use Rattle.std.proofs.Common.{◌≡◌, ℕ, ◌<◌, Bool, true, ◌⊎◌, Li
 use Rattle.std.proofs.lemmas.List.{get_or-set_same, get_or-set_other, set_past}
 use Rattle.std.proofs.lemmas.Bool.{cases_eq, cases_lt, and_parts, and_from}
 use Rattle.walks.specs.Exactly.{In}
-use Rattle.sheets.specs.Lists.{all_of}
+use Rattle.std.specs.List.{list_all}
 
-pub all_of_each : (test : ℕ → Bool) (xs : List ℕ) → all_of test xs ≡ true → (x : ℕ) → In x xs → test x ≡ true
-all_of_each test [] e x h = absurd h
-all_of_each test (y ∷ ys) e x h =
-    let both = and_parts (test y) (all_of test ys) e in
-    ⊎_elim (λ (i : y ≡ x). sym (ap test i) ∙ both.0) (λ (rest : In x ys). all_of_each test ys both.1 x rest) h
+pub list_all_each : (test : ℕ → Bool) (xs : List ℕ) → list_all test xs ≡ true → (x : ℕ) → In x xs → test x ≡ true
+list_all_each test [] e x h = absurd h
+list_all_each test (y ∷ ys) e x h =
+    let both = and_parts (test y) (list_all test ys) e in
+    ⊎_elim (λ (i : y ≡ x). sym (ap test i) ∙ both.0) (λ (rest : In x ys). list_all_each test ys both.1 x rest) h
 
-pub all_of_from : (test : ℕ → Bool) (xs : List ℕ) → ((x : ℕ) → In x xs → test x ≡ true) → all_of test xs ≡ true
-all_of_from test [] h = refl
-all_of_from test (y ∷ ys) h =
-    and_from (test y) (all_of test ys) (h y (inl refl)) (all_of_from test ys (λ x rest. h x (inr rest)))
+pub list_all_from : (test : ℕ → Bool) (xs : List ℕ) → ((x : ℕ) → In x xs → test x ≡ true) → list_all test xs ≡ true
+list_all_from test [] h = refl
+list_all_from test (y ∷ ys) h =
+    and_from (test y) (list_all test ys) (h y (inl refl)) (list_all_from test ys (λ x rest. h x (inr rest)))
 
 -- after a write, a place has what it had or what was written
 pub set_case :

@@ -8,6 +8,7 @@ use Rattle.field.specs.declared.device.Device.{Device}
 use Rattle.field.specs.Devices.{blank, unknown, device_ordered}
 use Rattle.field.specs.Meaning.{Meaning, with_device, ordered, order_of}
 use Rattle.sheets.specs.declared.sheet.Sheets.{Sheets}
+use Rattle.sheets.specs.Reading.{element_of}
 use Rattle.holds.specs.declared.interlocking.Interlocking.{Interlocking}
 use Rattle.holds.specs.Interlockings.{hold_of}
 use Rattle.acts.specs.declared.act.Event.{Event}
@@ -25,7 +26,7 @@ pub orders_held : (t : Sheets) (i : Interlocking) (r : ℕ) (m : Meaning) (n : �
 unfolding orders
 orders_held t i r m zero o h = absurd h
 orders_held t i r m (suc n) o h =
-    let b = due t i r (sent t i r m n) n in
+    let b = due (element_of t n) i r (sent t i r m n) n in
     ⊎_elim
     (λ (old : In o (orders t i r m n)). orders_held t i r m n o old)
     (λ (new : In o (cond b (order_to i n ∷ []) [])). subst (λ (x : Order). x.position ≡ (hold_of i x.element).position) (in_cond b (order_to i n) o new).1 refl)
@@ -52,7 +53,7 @@ unfolding orders sent
 order_stays t i r m zero e none = refl
 order_stays t i r m (suc n) e none =
     let before = sent t i r m n in
-    let b = due t i r before n in
+    let b = due (element_of t n) i r before n in
     let p = (hold_of i n).position in
     let old : order_of before e ≡ order_of m e = order_stays t i r m n e (λ q h. none q (in_left _ (orders t i r m n) (cond b (order_to i n ∷ []) []) h)) in
     ⊎_elim
@@ -106,7 +107,7 @@ order_held t i r m zero e = inl refl
 order_held t i r m (suc n) e =
     let before = sent t i r m n in
     let p = (hold_of i n).position in
-    cond_both (due t i r before n) (ordered before n p) before (λ (x : Meaning). (order_of x e ≡ order_of m e) ⊎ (order_of x e ≡ Some (hold_of i e).position))
+    cond_both (due (element_of t n) i r before n) (ordered before n p) before (λ (x : Meaning). (order_of x e ≡ order_of m e) ⊎ (order_of x e ≡ Some (hold_of i e).position))
     (λ _.
     ⊎_elim
     (λ (o : order_of (ordered before n p) e ≡ order_of before e).

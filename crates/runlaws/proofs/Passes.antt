@@ -54,8 +54,8 @@ total_set :
     (w : RouteState → ℕ) → w Absent ≡ 0 → (ss : List RouteState) (k n : ℕ) (y : RouteState)
     → k < n → w y < w (at ss k) → total w (set ss k y) n < total w ss n
 unfolding total
-total_set w none ss k zero y below lt = absurd (let no : ⊥ = omega arith in no)
-total_set w none [] k (suc n) y below lt = absurd (let no : ⊥ = omega arith in no)
+total_set w none ss k zero y below lt = absurd (omega arith)
+total_set w none [] k (suc n) y below lt = absurd (omega arith)
 total_set w none (x ∷ xs) zero (suc n) y below lt = omega arith
 total_set w none (x ∷ xs) (suc k) (suc n) y below lt = omega (arith, total_set w none xs k n y (omega arith) lt)
 
@@ -70,7 +70,7 @@ module _ (stays : Test) (f : Move) (w : RouteState → ℕ) (small : (s : RouteS
       (ss : List RouteState) (n : ℕ) → n ≤ count
       → ((passed f R ss n ≡ ss) × Still ss n) ⊎ (total w (passed f R ss n) count < total w ss count)
   unfolding passed
-  pass_way ss zero few = inl (refl, λ k h. absurd (let no : ⊥ = omega arith in no))
+  pass_way ss zero few = inl (refl, λ k h. absurd (omega arith))
   pass_way ss (suc n) few =
       let t = passed f R ss n in
       ⊎_elim
@@ -101,7 +101,7 @@ module _ (stays : Test) (f : Move) (w : RouteState → ℕ) (small : (s : RouteS
       (λ (h : (passed f R ss count ≡ ss) × Still ss count).
       let lt = moves (at ss one.0) (R ss one.0) one.3 in
       let same = ap w (h.1 one.0 below) in
-      absurd (let no : ⊥ = omega arith in no))
+      absurd (omega arith))
       (λ (lt : total w (passed f R ss count) count < total w ss count). lt)
       (pass_way ss count (omega arith))
 
@@ -110,7 +110,7 @@ module _ (stays : Test) (f : Move) (w : RouteState → ℕ) (small : (s : RouteS
   rest_within ss zero light =
       ⊎_elim
       (λ (e : all_stay stays R count ss ≡ true). e)
-      (λ (e : all_stay stays R count ss ≡ false). let lt = pass_less ss e in absurd (let no : ⊥ = omega arith in no))
+      (λ (e : all_stay stays R count ss ≡ false). let lt = pass_less ss e in absurd (omega arith))
       (cases_Bool (all_stay stays R count ss))
   rest_within ss (suc n) light =
       either_way (λ (u : List RouteState). all_stay stays R count u ≡ true) (all_stay stays R count ss) ss (until stays f R count (passed f R ss count) n)

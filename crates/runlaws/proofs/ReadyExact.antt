@@ -5,7 +5,7 @@ use Rattle.layout.specs.declared.position.Position.{Position}
 use Rattle.layout.specs.declared.position.Position.TheVariants as position
 use Rattle.field.specs.Meaning.{Meaning, report_of, burning_of, occupied_of}
 use Rattle.sheets.specs.declared.sheet.Sheets.{Sheets}
-use Rattle.sheets.specs.Lists.{all_of}
+use Rattle.std.specs.List.{list_all}
 use Rattle.sheets.specs.Reading.{route_sheet, has_route, need_of, request_of, wanted_by, used_by, element_of, moves}
 use Rattle.holds.specs.declared.interlocking.Interlocking.{Interlocking}
 use Rattle.holds.specs.Positions.{same, reports}
@@ -17,7 +17,7 @@ use Rattle.acts.specs.Situations.{situation}
 use Rattle.runlaws.specs.Lawful.{Lawful}
 use Rattle.runlaws.specs.SheetLaw.{Guarded}
 use Rattle.runlaws.specs.Ready.{ReadyExactly}
-use Rattle.runlaws.proofs.Lists.{all_of_from}
+use Rattle.runlaws.proofs.Lists.{list_all_from}
 use Rattle.runlaws.proofs.Granted.{same_self}
 use Rattle.runlaws.proofs.Runs.{ready_guarded}
 
@@ -68,23 +68,23 @@ module _ (t : Sheets) (i : Interlocking) (m : Meaning) (r : ℕ) (good : Guarded
   guarded_ready : Lawful t → has_route t r ≡ true → lamp_proved t i m (route_sheet t r).end_lamp ≡ true → ready t i m r ≡ true
   guarded_ready law route lamp =
       let s = route_sheet t r in
-      let wants = all_of (want_met t s i m r) (wanted_by s) in
-      let frees = all_of (is_free m) (used_by s) in
+      let wants = list_all (want_met t s i m r) (wanted_by s) in
+      let frees = list_all (is_free m) (used_by s) in
       let last = lamp_proved t i m s.end_lamp in
       and_from wants (frees && last)
-      (all_of_from (want_met t s i m r) (wanted_by s)
+      (list_all_from (want_met t s i m r) (wanted_by s)
       (λ e _.
       let k = (element_of t e).kind in
       and_from (need_met k i m r e (need_of s e)) (request_met k i m r e (request_of s e)) (need_from e (need_of s e) refl) (request_from e (request_of s e) refl)))
       (and_from frees last
-      (all_of_from (is_free m) (used_by s) (λ x h. not_from_false (occupied_of m x) (good.sections x (law.listed r x route h))))
+      (list_all_from (is_free m) (used_by s) (λ x h. not_from_false (occupied_of m x) (good.sections x (law.listed r x route h))))
       lamp)
 
 pub ready_exactly : ReadyExactly
 ready_exactly t law i m r route =
     let s = route_sheet t r in
-    let wants = all_of (want_met t s i m r) (wanted_by s) in
-    let frees = all_of (is_free m) (used_by s) in
+    let wants = list_all (want_met t s i m r) (wanted_by s) in
+    let frees = list_all (is_free m) (used_by s) in
     let last = lamp_proved t i m s.end_lamp in (
       λ good.
           record {

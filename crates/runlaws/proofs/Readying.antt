@@ -6,7 +6,7 @@ use Rattle.field.specs.Meaning.{Meaning, burning_of}
 use Rattle.sheets.specs.declared.sheet.Sheets.{Sheets}
 use Rattle.sheets.specs.declared.sheet.Showing.{Showing}
 use Rattle.sheets.specs.declared.sheet.Showing.TheVariants as showing
-use Rattle.sheets.specs.Lists.{all_of}
+use Rattle.std.specs.List.{list_all}
 use Rattle.sheets.specs.Reading.{route_count, route_sheet, wanted_by, used_by}
 use Rattle.holds.specs.declared.interlocking.Interlocking.{Interlocking}
 use Rattle.holds.specs.declared.state.RouteState.{RouteState}
@@ -15,27 +15,13 @@ use Rattle.holds.specs.States.{is_waiting, is_clear, falls, rises}
 use Rattle.holds.specs.Interlockings.{state_of, with_state}
 use Rattle.holds.specs.Aspects.{permits, shown, clears, aspect_upto, permissive}
 use Rattle.readiness.specs.Readiness.{want_met, is_free, lamp_proved, ready}
-use Rattle.readiness.specs.Settling.{drop_one, drop_pass, all_keep, drops_until, raise_one, raise_pass, all_rest, raises_until, settled}
+use Rattle.readiness.specs.declared.settling.Settling.{Settling}
+use Rattle.readiness.specs.declared.settling.Settling.TheVariants.{Dropping, Raising}
+use Rattle.readiness.specs.Settling.{concerns, state_after, settle_one, pass, all_stay, passes_until, settled}
 use Rattle.runlaws.specs.Settled.{at, with_states, ready_in, Rested}
 use Rattle.runlaws.proofs.Passes.{passed, until}
-use Rattle.runlaws.proofs.Settles.{
-  Within,
-  Growing,
-  clear_is,
-  if_ready,
-  if_unready,
-  fallen,
-  risen,
-  fallen_ready,
-  fallen_stands,
-  fallen_length,
-  fallen_only,
-  risen_ready,
-  risen_none,
-  risen_stands,
-  risen_length,
-  risen_only,
-}
+use Rattle.runlaws.proofs.Taken.{Within, Growing, length-taking, only_taken, raising_ready}
+use Rattle.runlaws.proofs.Settles.{clear_is, if_left, settled_by, settled_left, settled_taking, settled_stands}
 
 falls_unless : (s : RouteState) (b : Bool) → is_clear s ≡ false → falls s b ≡ s
 falls_unless Absent b e = refl
@@ -61,50 +47,42 @@ stopped :
 stopped i true x y xs ys ex ey = ex
 stopped i false x y xs ys ex ey = ey
 
+-- a route that dropping or raising does not concern keeps its state
+state_unless : (w : Settling) (s : RouteState) (b : Bool) → concerns w s ≡ false → state_after w s b ≡ s
+state_unless Dropping = falls_unless
+state_unless Raising = rises_unless
+
 module _ (t : Sheets) (m : Meaning) where
-  drop_pass_is : (i : Interlocking) (n : ℕ) → drop_pass t m i n ≡ with_states i (passed falls (ready_in t m i) i.states n)
-  unfolding drop_pass passed
-  drop_pass_is i zero = refl
-  drop_pass_is i (suc n) =
-      let j = with_states i (passed falls (ready_in t m i) i.states n) in
-      ap (λ k. drop_one t m k n) (drop_pass_is i n) ∙ written j n (is_clear (state_of j n)) (falls (state_of j n) (ready t j m n)) (falls_unless (state_of j n) (ready t j m n))
+  pass_is : (w : Settling) (i : Interlocking) (n : ℕ) → pass w t m i n ≡ with_states i (passed (state_after w) (ready_in t m i) i.states n)
+  unfolding pass passed
+  pass_is w i zero = refl
+  pass_is w i (suc n) =
+      let j = with_states i (passed (state_after w) (ready_in t m i) i.states n) in
+      ap (λ k. settle_one w t m k (route_sheet t n) n) (pass_is w i n)
+      ∙ written j n (concerns w (state_of j n)) (state_after w (state_of j n) (ready t j m n)) (state_unless w (state_of j n) (ready t j m n))
 
-  raise_pass_is : (i : Interlocking) (n : ℕ) → raise_pass t m i n ≡ with_states i (passed rises (ready_in t m i) i.states n)
-  unfolding raise_pass passed
-  raise_pass_is i zero = refl
-  raise_pass_is i (suc n) =
-      let j = with_states i (passed rises (ready_in t m i) i.states n) in
-      ap (λ k. raise_one t m k n) (raise_pass_is i n) ∙ written j n (is_waiting (state_of j n)) (rises (state_of j n) (ready t j m n)) (rises_unless (state_of j n) (ready t j m n))
-
-  drops_are : (i : Interlocking) (n : ℕ) → drops_until t m i n ≡ with_states i (until if_ready falls (ready_in t m i) (route_count t) i.states n)
-  unfolding drops_until until all_keep
-  drops_are i zero = refl
-  drops_are i (suc n) =
-      let j = with_states i (passed falls (ready_in t m i) i.states (route_count t)) in
-      stopped i (all_keep t m i) i (drops_until t m (drop_pass t m i (route_count t)) n) i.states
-      (until if_ready falls (ready_in t m i) (route_count t) j.states n)
+  passes_are : (w : Settling) (i : Interlocking) (n : ℕ)
+      → passes_until w t m i n ≡ with_states i (until (if_left w) (state_after w) (ready_in t m i) (route_count t) i.states n)
+  unfolding passes_until until all_stay
+  passes_are w i zero = refl
+  passes_are w i (suc n) =
+      let j = with_states i (passed (state_after w) (ready_in t m i) i.states (route_count t)) in
+      stopped i (all_stay w t m i) i (passes_until w t m (pass w t m i (route_count t)) n) i.states
+      (until (if_left w) (state_after w) (ready_in t m i) (route_count t) j.states n)
       refl
-      (ap (λ k. drops_until t m k n) (drop_pass_is i (route_count t)) ∙ drops_are j n)
-
-  raises_are : (i : Interlocking) (n : ℕ) → raises_until t m i n ≡ with_states i (until if_unready rises (ready_in t m i) (route_count t) i.states n)
-  unfolding raises_until until all_rest
-  raises_are i zero = refl
-  raises_are i (suc n) =
-      let j = with_states i (passed rises (ready_in t m i) i.states (route_count t)) in
-      stopped i (all_rest t m i) i (raises_until t m (raise_pass t m i (route_count t)) n) i.states
-      (until if_unready rises (ready_in t m i) (route_count t) j.states n)
-      refl
-      (ap (λ k. raises_until t m k n) (raise_pass_is i (route_count t)) ∙ raises_are j n)
+      (ap (λ k. passes_until w t m k n) (pass_is w i (route_count t)) ∙ passes_are w j n)
 
   -- the states once clear routes are dropped, and after settling
   abbrev pub dropped_in : Interlocking → List RouteState
-  dropped_in i = fallen (ready_in t m i) (route_count t) i.states
+  dropped_in i = settled_by Dropping (ready_in t m i) (route_count t) i.states
 
   abbrev pub rested_in : Interlocking → List RouteState
-  rested_in i = risen (ready_in t m i) (route_count t) (dropped_in i)
+  rested_in i = settled_by Raising (ready_in t m i) (route_count t) (dropped_in i)
 
   pub settled_is : (i : Interlocking) → settled t m i ≡ with_states i (rested_in i)
-  settled_is i = ap (λ j. raises_until t m j (route_count t)) (drops_are i (route_count t)) ∙ raises_are (with_states i (dropped_in i)) (route_count t)
+  settled_is i =
+      ap (λ j. passes_until Raising t m j (route_count t)) (passes_are Dropping i (route_count t))
+      ∙ passes_are Raising (with_states i (dropped_in i)) (route_count t)
 
 shown_permits : (x : Showing) → permits (shown x) ≡ true
 shown_permits showing.Shunting = refl
@@ -125,7 +103,7 @@ permits_some t i e (suc n) h =
 
 some_permits : (t : Sheets) (i : Interlocking) (e n q : ℕ) → q < n → clears t i e q ≡ true → permits (aspect_upto t i e n) ≡ true
 unfolding aspect_upto
-some_permits t i e zero q l c = absurd (let no : ⊥ = omega arith in no)
+some_permits t i e zero q l c = absurd (omega arith)
 some_permits t i e (suc n) q l c =
     ⊎_elim
     (λ (y : clears t i e n ≡ true).
@@ -156,37 +134,43 @@ lamp_grows t m i ss tt more (Some e) h =
 pub ready_grows : (t : Sheets) (m : Meaning) (i : Interlocking) → Growing (ready_in t m i)
 ready_grows t m i ss tt more r h =
     let s = route_sheet t r in
-    let wants = all_of (want_met t s i m r) (wanted_by s) in
-    let frees = all_of (is_free m) (used_by s) in
+    let wants = list_all (want_met t s i m r) (wanted_by s) in
+    let frees = list_all (is_free m) (used_by s) in
     let a = and_parts wants (frees && lamp_proved t (with_states i ss) m s.end_lamp) h in
     let b = and_parts frees (lamp_proved t (with_states i ss) m s.end_lamp) a.1 in
     and_from wants (frees && lamp_proved t (with_states i tt) m s.end_lamp) a.0
     (and_from frees (lamp_proved t (with_states i tt) m s.end_lamp) b.0 (lamp_grows t m i ss tt more s.end_lamp b.1))
 
 pub rested_length : (t : Sheets) (m : Meaning) (i : Interlocking) → length (rested_in t m i) ≡ length i.states
-rested_length t m i = risen_length (ready_in t m i) (route_count t) (dropped_in t m i) ∙ fallen_length (ready_in t m i) (route_count t) i.states
+rested_length t m i =
+    let R = ready_in t m i in
+    let n = route_count t in
+    let mid = dropped_in t m i in
+    length-taking R n mid (settled_taking Raising R n mid) ∙ length-taking R n i.states (settled_taking Dropping R n i.states)
 
 pub rested : (t : Sheets) (m : Meaning) (i : Interlocking) → Rested t m i (settled t m i)
 rested t m i =
     let R = ready_in t m i in
     let n = route_count t in
+    let mid = dropped_in t m i in
+    let down_only = only_taken R n i.states (settled_taking Dropping R n i.states) in
     subst (Rested t m i) (sym (settled_is t m i))
     (record {
-      clear = risen_ready R n (ready_grows t m i) (dropped_in t m i) (fallen_ready R n i.states);
-      waiting = risen_none R n (dropped_in t m i);
+      clear = raising_ready R n (ready_grows t m i) mid (settled_taking Raising R n mid) (settled_left Dropping R n i.states);
+      waiting = settled_left Raising R n mid;
       changes = λ r.
           ⊎_elim
           (λ (up : at (rested_in t m i) r ≡ at (dropped_in t m i) r).
           ⊎_elim
           (λ (down : at (dropped_in t m i) r ≡ state_of i r). inl (up ∙ down))
           (λ (down : (state_of i r ≡ Clear) × (at (dropped_in t m i) r ≡ Dropped)). inr (inl (down.0, up ∙ down.1)))
-          (fallen_only R n i.states r))
+          (down_only r))
           (λ (up : (at (dropped_in t m i) r ≡ Waiting) × (at (rested_in t m i) r ≡ Clear)).
           ⊎_elim
           (λ (down : at (dropped_in t m i) r ≡ state_of i r). inr (inr (sym down ∙ up.0, up.1)))
           (λ (down : (state_of i r ≡ Clear) × (at (dropped_in t m i) r ≡ Dropped)). absurd (false≢true (ap is_waiting (sym down.1 ∙ up.0))))
-          (fallen_only R n i.states r))
-          (risen_only R n (dropped_in t m i) r);
-      stand = λ r. risen_stands R n (dropped_in t m i) r ∙ fallen_stands R n i.states r;
+          (down_only r))
+          (only_taken R n mid (settled_taking Raising R n mid) r);
+      stand = λ r. settled_stands Raising R n mid r ∙ settled_stands Dropping R n i.states r;
       holds = refl;
     })

@@ -9,7 +9,7 @@ use Rattle.field.specs.Meaning.{Meaning, report_of, burning_of, order_of, occupi
 use Rattle.refusals.specs.declared.refusal.Refusal.{Refusal}
 use Rattle.refusals.specs.declared.refusal.Refusal.TheVariants as refusal
 use Rattle.sheets.specs.declared.sheet.Sheets.{Sheets}
-use Rattle.sheets.specs.Lists.{all_of}
+use Rattle.std.specs.List.{list_all}
 use Rattle.sheets.specs.Reading.{route_count, route_sheet, has_route, need_of, request_of, wanted_by, used_by, element_of, moves}
 use Rattle.holds.specs.declared.aspect.Aspect.{Aspect}
 use Rattle.holds.specs.declared.hold.Hold.{Hold}
@@ -32,7 +32,7 @@ use Rattle.acts.specs.Acts.{after, settle, unless, performed, step_orders, order
 use Rattle.runlaws.specs.Lawful.{Lawful}
 use Rattle.runlaws.specs.SheetLaw.{run, Standing, Holds, Passes, Shields, Permissive, Apart, Guarded, Safe, SafeRun, UntilReleased, LawOfRuns}
 use Rattle.runlaws.specs.Ready.{LeftSettled, SettledAfter}
-use Rattle.runlaws.proofs.Lists.{all_of_each}
+use Rattle.runlaws.proofs.Lists.{list_all_each}
 use Rattle.runlaws.proofs.Settles.{clear_is}
 use Rattle.runlaws.proofs.Readying.{permits_some, rested}
 use Rattle.runlaws.proofs.Granted.{same_true, grown_requests, shrunk_all}
@@ -53,16 +53,16 @@ held_told i r e p h =
     (parts.0, same_true (hold_of i e).position p parts.1)
 
 module _ (t : Sheets) (law : Lawful t) (i : Interlocking) (m : Meaning) (r : ℕ) (route : has_route t r ≡ true) (good : ready t i m r ≡ true) where
-  wants_part : all_of (want_met t (route_sheet t r) i m r) (wanted_by (route_sheet t r)) ≡ true
+  wants_part : list_all (want_met t (route_sheet t r) i m r) (wanted_by (route_sheet t r)) ≡ true
   wants_part =
-      (and_parts (all_of (want_met t (route_sheet t r) i m r) (wanted_by (route_sheet t r)))
-      (all_of (is_free m) (used_by (route_sheet t r)) && lamp_proved t i m (route_sheet t r).end_lamp) good).0
+      (and_parts (list_all (want_met t (route_sheet t r) i m r) (wanted_by (route_sheet t r)))
+      (list_all (is_free m) (used_by (route_sheet t r)) && lamp_proved t i m (route_sheet t r).end_lamp) good).0
 
-  frees_part : all_of (is_free m) (used_by (route_sheet t r)) ≡ true
+  frees_part : list_all (is_free m) (used_by (route_sheet t r)) ≡ true
   frees_part =
       let last = lamp_proved t i m (route_sheet t r).end_lamp in
-      let frees = all_of (is_free m) (used_by (route_sheet t r)) in
-      (and_parts frees last (and_parts (all_of (want_met t (route_sheet t r) i m r) (wanted_by (route_sheet t r))) (frees && last) good).1).0
+      let frees = list_all (is_free m) (used_by (route_sheet t r)) in
+      (and_parts frees last (and_parts (list_all (want_met t (route_sheet t r) i m r) (wanted_by (route_sheet t r))) (frees && last) good).1).0
 
   want_parts :
       (e : ℕ) → In e (wanted_by (route_sheet t r))
@@ -71,7 +71,7 @@ module _ (t : Sheets) (law : Lawful t) (i : Interlocking) (m : Meaning) (r : ℕ
   want_parts e h =
       let k = (element_of t e).kind in
       let s = route_sheet t r in
-      and_parts (need_met k i m r e (need_of s e)) (request_met k i m r e (request_of s e)) (all_of_each (want_met t s i m r) (wanted_by s) wants_part e h)
+      and_parts (need_met k i m r e (need_of s e)) (request_met k i m r e (request_of s e)) (list_all_each (want_met t s i m r) (wanted_by s) wants_part e h)
 
   need_told : (e : ℕ) (p : Position) → Passes t r e p → ((held_by i r e ≡ true) × ((hold_of i e).position ≡ p)) × (report_of m e ≡ Some p)
   need_told e p h =
@@ -95,7 +95,7 @@ module _ (t : Sheets) (law : Lawful t) (i : Interlocking) (m : Meaning) (r : ℕ
   ready_guarded =
       record {
         elements = need_told;
-        sections = λ x u. not-true (occupied_of m x) (all_of_each (is_free m) (used_by (route_sheet t r)) frees_part x (law.used r x route u).1);
+        sections = λ x u. not-true (occupied_of m x) (list_all_each (is_free m) (used_by (route_sheet t r)) frees_part x (law.used r x route u).1);
         held = λ e p h. (request_told e p h).0;
         reported = λ e p h mv. reports_true (report_of m e) p (subst (λ b. cond b (reports (report_of m e) p) (burning_of m e) ≡ true) mv (request_told e p h).1);
         burning = λ e p h mv. subst (λ b. cond b (reports (report_of m e) p) (burning_of m e) ≡ true) mv (request_told e p h).1;
@@ -224,7 +224,7 @@ always P f keeps [] s p (suc n) = p
 always P f keeps (x ∷ xs) s p (suc n) = always P f keeps xs (f s x) (keeps s x p) n
 
 folded_next : {S A : Type 0} (f : S → A → S) (xs : List A) (s : S) (n : ℕ) (d : A) → n < length xs → fold f s (take (suc n) xs) ≡ f (fold f s (take n xs)) (get_or xs n d)
-folded_next f [] s n d h = absurd (let no : ⊥ = omega arith in no)
+folded_next f [] s n d h = absurd (omega arith)
 folded_next f (x ∷ xs) s zero d h = refl
 folded_next f (x ∷ xs) s (suc n) d h = folded_next f xs (f s x) n d (omega arith)
 

@@ -19,19 +19,20 @@ Readiness = List RouteState → ℕ → Bool
 abbrev pub at : List RouteState → ℕ → RouteState
 at ss k = slice_index_or ss k Absent
 
--- A clear route of the first n that is not ready is dropped, and then another.
-pub data Dropping (R : Readiness) (n : ℕ) (ss : List RouteState) : List RouteState → Type 0 where
-  none_dropped : Dropping R n ss ss
-  one_dropped :
-      {tt : List RouteState} → Dropping R n ss tt → (k : ℕ) → k < n → at tt k ≡ Clear → R tt k ≡ false
-      → Dropping R n ss (slice_set tt k Dropped)
+-- A route of the first n that is in one state, ready or not as is asked, is taken into another, and then another route.
+pub data Taking (from to : RouteState) (ready : Bool) (R : Readiness) (n : ℕ) (ss : List RouteState) : List RouteState → Type 0 where
+  none_taken : Taking from to ready R n ss ss
+  one_taken :
+      {tt : List RouteState} → Taking from to ready R n ss tt → (k : ℕ) → k < n → at tt k ≡ from → R tt k ≡ ready
+      → Taking from to ready R n ss (slice_set tt k to)
 
--- A waiting route of the first n that is ready is cleared, and then another.
-pub data Raising (R : Readiness) (n : ℕ) (ss : List RouteState) : List RouteState → Type 0 where
-  none_raised : Raising R n ss ss
-  one_raised :
-      {tt : List RouteState} → Raising R n ss tt → (k : ℕ) → k < n → at tt k ≡ Waiting → R tt k ≡ true
-      → Raising R n ss (slice_set tt k Clear)
+-- Clear routes that are not ready are dropped.
+abbrev pub Dropping : Readiness → ℕ → List RouteState → List RouteState → Type 0
+Dropping = Taking Clear Dropped false
+
+-- Waiting routes that are ready are cleared.
+abbrev pub Raising : Readiness → ℕ → List RouteState → List RouteState → Type 0
+Raising = Taking Waiting Clear true
 
 -- Every clear route of the first n is ready.
 abbrev pub AllReady : Readiness → ℕ → List RouteState → Type 0

@@ -17,11 +17,13 @@ pub fn settling_is_exact()
 {}
 
 /// A route is ready exactly if its words say so.
+#[tactic(auto, using(crate::proofs::ReadyExact::ready_exactly))]
 pub fn readiness_is_exact()
     ensures { ReadyExactly }
 {}
 
 /// Every accepted act leaves every clear route ready and no waiting one, and only a clear route is dropped.
+#[tactic(auto, using(crate::proofs::Runs::settled_after))]
 pub fn settled_after_every_act()
     ensures { SettledAfter }
 {}

@@ -47,7 +47,7 @@ module _ (es : List Element) (sound : SoundElements es) (r : Route) (route : Sou
   overlap_passes u = go route.overlap
     where
       go : (overlap_of r ≡ []) ⊎ SoundOverlap es (path_of r) (overlap_of r) → (p : Position) × Passes es r e p
-      go (inl none) = absurd (let no : ⊥ = omega (arith, u.within, ap length none) in no)
+      go (inl none) = absurd (omega (arith, u.within, ap length none))
       go (inr o) =
           let k = u.at_place in
           let not_last : k ≢ last (overlap_of r) =

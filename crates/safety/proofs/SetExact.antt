@@ -37,7 +37,7 @@ module _ (es : List Element) (r : Route) (route : SoundRoute es r) where
   beyond_known e k b = go route.overlap
     where
       go : (overlap_of r ≡ []) ⊎ SoundOverlap es (path_of r) (overlap_of r) → e < length es
-      go (inl none) = absurd (let no : ⊥ = omega (arith, b.within, ap length none) in no)
+      go (inl none) = absurd (omega (arith, b.within, ap length none))
       go (inr o) =
           subst (λ (n : ℕ). n < length es) b.is
           (beyond_within es (path_of r) (overlap_of r) route.path.within o (suc k) (omega (arith, b.within)))

@@ -17,6 +17,7 @@ pub fn law_of_runs()
 
 /// On a sound plan: when a set is accepted, that no field decides it, that a refused act changes nothing,
 /// when a route is ready, and what every accepted act leaves settled.
+#[tactic(auto, using(crate::proofs::SetExact::set_exactly, crate::proofs::SetExact::same_on_every_field, crate::proofs::SetExact::refused_changes_nothing, crate::proofs::ReadyExact::ready_exactly, crate::proofs::SettledExact::settled_after))]
 pub fn acts_are_exact()
     ensures set { (d : Drawing) → SoundPlan d → SetExactly d }
     ensures field { (d : Drawing) → SoundPlan d → SameOnEveryField d }

@@ -1,21 +1,21 @@
 -- The sheets tell the kind and the section of each element, and exactly the sections in which some element of the plan lies.
 use Rattle.std.proofs.Common.{◌≡◌, ℕ, ◌<◌, false, List, get_or, sym, ap, ◌∙◌, arith}
+use Rattle.std.proofs.lemmas.List.FromFn.{get_or-map-range_with_len}
 use Rattle.layout.specs.declared.element.Element.{Element}
 use Rattle.sheets.specs.declared.sheet.ElementSheet.{ElementSheet}
 use Rattle.sheets.specs.Sections.{is_known, known_of}
 use Rattle.sheets.specs.Sheets.{element_sheet, no_element_sheet, element_sheets}
 use Rattle.sheetlaws.specs.Routes.{elements_of}
 use Rattle.sheetlaws.specs.Elements.{ElementsExact, KnownExact}
-use Rattle.sheets.proofs.RuleTables.{by_rule_at}
 use Rattle.sheetlaws.proofs.Places.{known_sound, known_from}
 
 element_at : (es : List Element) (e : ℕ) → e < 96 → get_or (element_sheets es) e no_element_sheet ≡ element_sheet es e
 unfolding element_sheets
-element_at es e h = by_rule_at 96 no_element_sheet (element_sheet es) 96 e no_element_sheet h (omega arith)
+element_at es e h = get_or-map-range_with_len (element_sheet es) 0 96 e e no_element_sheet h (omega arith)
 
 known_at : (es : List Element) (s : ℕ) → s < 64 → get_or (known_of es) s false ≡ is_known es s
 unfolding known_of
-known_at es s h = by_rule_at 64 false (is_known es) 64 s false h (omega arith)
+known_at es s h = get_or-map-range_with_len (is_known es) 0 64 s s false h (omega arith)
 
 pub elements_exact : ElementsExact
 elements_exact d p e h =

@@ -1,5 +1,6 @@
 -- The sheet of a route tells its first element, the signal and the lamp at its end, and what its start signal shows.
 use Rattle.std.proofs.Common.{◌≡◌, ℕ, ◌<◌, Bool, true, false, cond, ◌||◌, List, length, Some, None, Option, sym, refl, ap, ◌∙◌, subst, arith}
+use Rattle.std.proofs.lemmas.Option.{cond_some}
 use Rattle.std.proofs.lemmas.Bool.{cond-true, lt-ltb, or_parts, or_from}
 use Rattle.layout.specs.declared.drawing.Drawing.{Drawing}
 use Rattle.layout.specs.declared.element.Element.{Element}
@@ -9,7 +10,6 @@ use Rattle.layout.specs.declared.route.Route.{Route}
 use Rattle.layout.specs.Kinds.{is_signal}
 use Rattle.layout.specs.Ports.{at}
 use Rattle.layout.specs.Uses.{path_of}
-use Rattle.layout.proofs.JoinPorts.{some_apart}
 use Rattle.layout.proofs.KindTests.{signal_test}
 use Rattle.walks.proofs.Flanks.{sound_route}
 use Rattle.sheets.specs.declared.sheet.RouteSheet.{RouteSheet}
@@ -20,13 +20,9 @@ use Rattle.sheetlaws.specs.Routes.{HasRoute, elements_of, sheet_at}
 use Rattle.sheetlaws.specs.Ends.{first_element, last_element, EndsAtSignal, ProvesLamp, EndsExact, ShowingExact}
 use Rattle.sheetlaws.proofs.Reading.{sheets_in_order}
 
--- a value that is there under a condition
-cond_some : (b : Bool) (x y : ℕ) → cond b (Some x) None ≡ Some y → (b ≡ true) × (x ≡ y)
-cond_some true x y e = (refl, (cc))
-cond_some false x y e = absurd (some_apart e)
-
+-- a value that is there where a condition fails
 cond_none : (b : Bool) (x y : ℕ) → cond b None (Some x) ≡ Some y → (b ≡ false) × (x ≡ y)
-cond_none true x y e = absurd (some_apart e)
+cond_none true x y e = cc
 cond_none false x y e = (refl, (cc))
 
 spared_sound : (o : Option Marks) → is_spared o ≡ false → (m : Marks) → o ≡ Some m → m.lamp_spared ≡ false
@@ -51,7 +47,7 @@ module _ (d : Drawing) (p : SoundPlan d) (i : ℕ) (h : HasRoute d i) where
 
   first_is : (sheet_at d i).first ≡ first_element d i
   unfolding sheet_of
-  first_is = ap (λ (a : RouteSheet). a.first) is_sheet ∙ cond-true _ _ _ (lt-ltb 0 (length (path_of r)) some_path)
+  first_is = ap (λ (a : RouteSheet). a.first) is_sheet
 
   last_is : (sheet_at d i).last_signal ≡ signal_at es (last_element d i)
   unfolding sheet_of
@@ -77,7 +73,7 @@ module _ (d : Drawing) (p : SoundPlan d) (i : ℕ) (h : HasRoute d i) where
   lamp_sound l e = go (sheet_at d i).last_signal refl (sym lamp_is ∙ e)
     where
       go : (o : Option ℕ) → (sheet_at d i).last_signal ≡ o → end_lamp_of es o r.zero_overlap ≡ Some l → ProvesLamp d i l
-      go None s t = absurd (some_apart t)
+      go None s t = cc
       go (Some k) s t =
           let x : ((r.zero_overlap || is_spared (at es k).marks) ≡ false) × (k ≡ l) = cond_none _ k l t in
           let y : (r.zero_overlap ≡ false) × (is_spared (at es k).marks ≡ false) = or_parts _ _ x.0 in

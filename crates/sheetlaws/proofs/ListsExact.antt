@@ -1,13 +1,15 @@
 -- The short lists of a sheet have exactly the elements and sections that pass their tests.
-use Rattle.std.proofs.Common.{◌≡◌, ℕ, zero, suc, ◌<◌, ◌≤◌, min, Bool, true, false, ◌⊎◌, List, [], ◌∷◌, ◌++◌, length, get_or, take, replicate, sym, refl, ap, ◌∙◌, subst, inl, inr, ⊎_elim, arith}
+use Rattle.std.proofs.Common.{◌≡◌, ℕ, zero, suc, ◌<◌, ◌≤◌, min, Bool, true, false, List, [], ◌∷◌, ◌++◌, length, get_or, take, replicate, sym, refl, ap, ◌∙◌, subst, inl, ⊎_elim, arith}
 use lib.ListN.{length-replicate}
 use Rattle.std.proofs.lemmas.List.{get_or_past}
+use Rattle.std.proofs.lemmas.List.FromFn.{length-map-range_with_len}
 use Rattle.std.proofs.lemmas.Bool.{cases_eq, cases_lt, cases_Bool, cond-true, cond-false, both_ways}
 use Rattle.bounded.specs.declared.bounded.Bounded.{Bounded}
 use Rattle.bounded.specs.Lists.{listed, blanks, pushed}
 use Rattle.layout.specs.declared.element.Element.{Element}
 use Rattle.layout.specs.declared.route.Route.{Route}
 use Rattle.walks.specs.Exactly.{In}
+use Rattle.walks.proofs.Found.{in_left, in_right, in_either}
 use Rattle.sheets.specs.declared.sheet.RouteSheet.{RouteSheet}
 use Rattle.sheets.specs.Lists.{numbers_where, is_wanted, is_used}
 use Rattle.sheets.specs.Sections.{section_use, no_use, sections_of}
@@ -16,23 +18,7 @@ use Rattle.sheets.specs.Wants.{want_at, no_want, wants_of}
 use Rattle.plan.specs.Flanks.{route_of}
 use Rattle.sheetlaws.specs.Routes.{Exactly, elements_of}
 use Rattle.sheetlaws.specs.Lists.{WantedExact, UsedExact}
-use Rattle.sheets.proofs.RuleTables.{by_rule_length}
 use Rattle.sheetlaws.proofs.Reading.{pushed_count, pushed_size, pushed_listed, sheets_in_order}
-
--- what stands in a list with one item more at its end
-in_more : (a x : ℕ) (xs : List ℕ) → In a (xs ++ (x ∷ [])) → In a xs ⊎ (x ≡ a)
-in_more a x [] h = ⊎_elim (λ (e : x ≡ a). inr e) (λ (none : In a []). absurd none) h
-in_more a x (y ∷ ys) h =
-    ⊎_elim (λ (e : y ≡ a). inl (inl e))
-    (λ (later : In a (ys ++ (x ∷ []))). ⊎_elim (λ (i : In a ys). inl (inr i)) (λ (e : x ≡ a). inr e) (in_more a x ys later)) h
-
-in_front : (a x : ℕ) (xs : List ℕ) → In a xs → In a (xs ++ (x ∷ []))
-in_front a x [] h = absurd h
-in_front a x (y ∷ ys) h = ⊎_elim (λ (e : y ≡ a). inl e) (λ (i : In a ys). inr (in_front a x ys i)) h
-
-in_end : (a x : ℕ) (xs : List ℕ) → x ≡ a → In a (xs ++ (x ∷ []))
-in_end a x [] e = inl e
-in_end a x (y ∷ ys) e = inr (in_end a x ys e)
 
 module _ {N : ℕ} (test : ℕ → Bool) where
   -- the list of the numbers below n that pass has no more than n items, and exactly these
@@ -53,11 +39,11 @@ module _ {N : ℕ} (test : ℕ → Bool) where
         sound = λ a h.
             ⊎_elim
             (λ (i : In a (listed b)). let old = l.sound a i in (let lt = old.0 in omega arith, old.1))
-            (λ (e : n ≡ a). (omega arith, subst (λ x. test x ≡ true) e t))
-            (in_more a n (listed b) (subst (In a) is h));
+            (λ (i : In a (n ∷ [])). ⊎_elim (λ (e : n ≡ a). (omega arith, subst (λ x. test x ≡ true) e t)) (λ (none : In a []). absurd none) i)
+            (in_either a (listed b) (n ∷ []) (subst (In a) is h));
         complete = λ a lt p.
             subst (In a) (sym is)
-            (⊎_elim (λ (e : a ≡ n). in_end a n (listed b) (sym e)) (λ ne. in_front a n (listed b) (l.complete a (omega arith) p)) (cases_eq a n));
+            (⊎_elim (λ (e : a ≡ n). in_right a (listed b) (n ∷ []) (inl (sym e))) (λ ne. in_left a (listed b) (n ∷ []) (l.complete a (omega arith) p)) (cases_eq a n));
       }
 
   lists_same : (n : ℕ) (b : Bounded ℕ N) → Lists n b → test n ≡ false → Lists (suc n) b
@@ -75,7 +61,7 @@ module _ {N : ℕ} (test : ℕ → Bool) where
     few = omega arith;
     size = length-replicate N 0;
     sound = λ a h. absurd (let no : min 0 N ≡ 0 = omega arith in subst (λ (k : ℕ). In a (take k (replicate N 0))) no h);
-    complete = λ a lt p. absurd (let none : ⊥ = omega arith in none);
+    complete = λ a lt p. absurd (omega arith);
   }
   lists_all (suc n) room =
       let b : Bounded ℕ N = numbers_where test n in
@@ -107,7 +93,7 @@ wanted_exact d p i h e =
     subst
     (λ (s : RouteSheet). Exactly (In e (listed s.wanted)) (is_wanted (get_or s.wants e no_want) ≡ true) × (is_wanted (get_or s.wants e no_want) ≡ true → e < 96))
     (sym ((sheets_in_order d p).1 i no_sheet h))
-    (listed_exactly is_wanted (wants_of es r) no_want 96 (by_rule_length 96 no_want (want_at es r) 96) refl e)
+    (listed_exactly is_wanted (wants_of es r) no_want 96 (length-map-range_with_len (want_at es r) 0 96) refl e)
 
 pub used_exact : UsedExact
 unfolding sheet_of sections_of
@@ -117,4 +103,4 @@ used_exact d p i h s =
     subst
     (λ (a : RouteSheet). Exactly (In s (listed a.used)) (is_used (get_or a.sections s no_use) ≡ true) × (is_used (get_or a.sections s no_use) ≡ true → s < 64))
     (sym ((sheets_in_order d p).1 i no_sheet h))
-    (listed_exactly is_used (sections_of es r) no_use 64 (by_rule_length 64 no_use (section_use es r) 64) refl s)
+    (listed_exactly is_used (sections_of es r) no_use 64 (length-map-range_with_len (section_use es r) 0 64) refl s)

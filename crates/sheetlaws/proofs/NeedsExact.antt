@@ -1,6 +1,6 @@
 -- The sheet of a route tells exactly the elements that the route itself needs, with their positions.
 use Rattle.std.proofs.Common.{◌≡◌, ℕ, ◌<◌, ◌≤◌, Bool, true, false, cond, ltb, ◌≢◌, ◌⊎◌, List, [], ◌∷◌, length, get_or, Some, None, Option, sym, refl, ap, ◌∙◌, subst, inl, inr, arith}
-use Rattle.std.proofs.lemmas.Bool.{and_parts, and_from, eqb-true, eq-eqb, lt-ltb}
+use Rattle.std.proofs.lemmas.Bool.{and_parts, and_from, eqb-true, eq-eqb, lt-ltb, false_from_ne_true}
 use Rattle.layout.specs.declared.element.Element.{Element}
 use Rattle.layout.specs.declared.kind.Kind.{Kind}
 use Rattle.layout.specs.declared.kind.Kind.TheVariants as kind
@@ -10,10 +10,10 @@ use Rattle.layout.specs.declared.route.Route.{Route}
 use Rattle.layout.specs.declared.route.RouteClass.{RouteClass}
 use Rattle.layout.specs.Kinds.{is_point}
 use Rattle.layout.specs.Ports.{at}
+use Rattle.layout.specs.Positions.{other}
 use Rattle.layout.specs.Sound.{SoundElements}
 use Rattle.layout.specs.Ways.{place}
 use Rattle.layout.specs.Uses.{path_of, overlap_of, way_beyond, PassesIn, FlankOf, Flank, in_path, in_overlap}
-use Rattle.layout.proofs.JoinPorts.{some_apart}
 use Rattle.paths.specs.Sound.{SoundOverlap}
 use Rattle.flank.specs.declared.flanks.Flank.{Flank as Leg}
 use Rattle.flank.specs.Flanks.{flank_over, flank_of}
@@ -22,7 +22,7 @@ use Rattle.walks.proofs.Used.{from_table, to_table}
 use Rattle.walks.proofs.Flanks.{SoundRoute, sound_route, beyond_within, flank_left, left_flank}
 use Rattle.walks.proofs.Exactly.{overlap_within}
 use Rattle.sheets.specs.declared.sheet.Want.{Want}
-use Rattle.sheets.specs.Wants.{other, moved_need, passed_need, starts_at, need_at, want_at}
+use Rattle.sheets.specs.Wants.{moved_need, passed_need, starts_at, need_at, want_at}
 use Rattle.plan.specs.Flanks.{route_of}
 use Rattle.sheetlaws.specs.Routes.{elements_of}
 use Rattle.sheetlaws.specs.Requests.{want_of}
@@ -32,12 +32,12 @@ use Rattle.sheetlaws.proofs.OtherLeg.{twice_other, passes_flank, flank_passes}
 
 -- only a used derailer is needed off
 moved_sound : (k : Kind) (used : Bool) (p : Position) → moved_need k used ≡ Some p → (k ≡ kind.Derailer) × (used ≡ true) × (position.Minus ≡ p)
-moved_sound kind.Track used p e = absurd (some_apart e)
-moved_sound kind.Point used p e = absurd (some_apart e)
+moved_sound kind.Track used p e = cc
+moved_sound kind.Point used p e = cc
 moved_sound kind.Derailer true p e = (refl, refl, (cc))
-moved_sound kind.Derailer false p e = absurd (some_apart e)
-moved_sound kind.Signal used p e = absurd (some_apart e)
-moved_sound kind.PlanEnd used p e = absurd (some_apart e)
+moved_sound kind.Derailer false p e = cc
+moved_sound kind.Signal used p e = cc
+moved_sound kind.PlanEnd used p e = cc
 
 -- only a point has a flank
 no_flank : (es : List Element) (c : RouteClass) (path overlap : List ℕ) (e : ℕ) → is_point (at es e).kind ≡ false → flank_over es c path overlap e ≡ None
@@ -60,25 +60,21 @@ module _ (es : List Element) (sound : SoundElements es) (few : length es ≤ 96)
 
   -- what is no signal is not the first element
   no_start : (at es e).kind ≢ kind.Signal → starts_at (path_of r) e ≡ false
-  no_start n = go (starts_at (path_of r) e) refl
-    where
-      go : (b : Bool) → starts_at (path_of r) e ≡ b → b ≡ false
-      go true t = absurd (n (sym (ap (λ (x : ℕ). (at es x).kind) (start_test t)) ∙ route.path.starts_at_signal))
-      go false t = refl
+  no_start n = false_from_ne_true _ (λ t. n (sym (ap (λ (x : ℕ). (at es x).kind) (start_test t)) ∙ route.path.starts_at_signal))
 
   flank_needs : {p : Position} {reach : ℕ} → Flank es r e p reach → Needs es r e (other p)
   flank_needs {p} (in_path f) = passes_in_path (flank_passes es sound (path_of r) route.path.within route.path.runs e p f)
   flank_needs {p} (in_overlap f) = passes_in_overlap (go route.overlap)
     where
       go : (overlap_of r ≡ []) ⊎ SoundOverlap es (path_of r) (overlap_of r) → PassesIn es (way_beyond r) e (other p)
-      go (inl i) = absurd (let none : ⊥ = omega (arith, f.between.within, ap length i) in none)
+      go (inl i) = absurd (omega (arith, f.between.within, ap length i))
       go (inr t) = flank_passes es sound (way_beyond r) (beyond_within es (path_of r) (overlap_of r) route.path.within t) t.runs e p f
 
   beyond_flank : (p : Position) → PassesIn es (way_beyond r) e p → FlankOf es (way_beyond r) e (other p)
   beyond_flank p f = go route.overlap
     where
       go : (overlap_of r ≡ []) ⊎ SoundOverlap es (path_of r) (overlap_of r) → FlankOf es (way_beyond r) e (other p)
-      go (inl i) = absurd (let none : ⊥ = omega (arith, f.between.within, ap length i) in none)
+      go (inl i) = absurd (omega (arith, f.between.within, ap length i))
       go (inr t) = passes_flank es sound (way_beyond r) (beyond_within es (path_of r) (overlap_of r) route.path.within t) t.runs e p f
 
   need_sound : (p : Position) → need_at es r used e ≡ Some p → Needs es r e p
@@ -104,7 +100,7 @@ module _ (es : List Element) (sound : SoundElements es) (few : length es ≤ 96)
   flank_need : (p : Position) {reach : ℕ} → (at es e).kind ≡ kind.Point → Flank es r e (other p) reach → need_at es r used e ≡ Some p
   flank_need p k f =
       let left = flank_left es r sound route e f in
-      later_need (λ s. let z : ◌≡◌ {A = ℕ} 0 1 = cc in omega arith)
+      later_need (λ s. cc)
       ∙ (ap (λ (o : Option Leg). passed_need o (moved_need (at es e).kind used)) left.is
       ∙ ap (λ (q : Position). Some q) (ap other left.leg_is ∙ twice_other p))
 
@@ -116,7 +112,7 @@ module _ (es : List Element) (sound : SoundElements es) (few : length es ≤ 96)
   need_from (derails u k) =
       let is_used : used ≡ true = to_table es r few route.path.within (overlap_within es r sound few route) e u in
       let flank : flank_of es r e ≡ None = no_flank es r.class (path_of r) (overlap_of r) e (ap is_point k) in
-      later_need (λ s. let z : ◌≡◌ {A = ℕ} 0 1 = cc in omega arith)
+      later_need (λ s. cc)
       ∙ (ap (λ (o : Option Leg). passed_need o (moved_need (at es e).kind used)) flank
       ∙ (ap (λ (x : Kind). moved_need x used) k ∙ ap (λ (b : Bool). cond b (Some position.Minus) None) is_used))
 

@@ -1,6 +1,6 @@
 -- Two paths from one signal run over the same signals to the same first other element, which lies in a section of both.
-use Rattle.std.proofs.Common.{◌≡◌, ℕ, zero, suc, ◌+◌, ◌<◌, ◌≤◌, Bool, true, false, ◌≢◌, List, length, is_some, Some, None, Option, sym, refl, ap, ◌∙◌, subst, inl, inr, arith}
-use Rattle.std.proofs.lemmas.Bool.{cases_eq, true≢false}
+use Rattle.std.proofs.Common.{◌≡◌, ℕ, zero, suc, ◌+◌, ◌<◌, ◌≤◌, Bool, true, false, ◌≢◌, List, length, Some, Option, sym, refl, ap, ◌∙◌, subst, inl, inr, arith}
+use Rattle.std.proofs.lemmas.Bool.{cases_eq}
 use Rattle.layout.specs.declared.element.Element.{Element}
 use Rattle.layout.specs.declared.element.Join.{Join}
 use Rattle.layout.specs.declared.kind.Kind.{Kind}
@@ -17,19 +17,16 @@ use Rattle.paths.specs.Sound.{Within, last, SoundPath}
 use Rattle.walks.proofs.Net.{join_low}
 use Rattle.walks.proofs.Flanks.{sound_route}
 use Rattle.plan.specs.Flanks.{route_of}
+use Rattle.layout.proofs.Values.{some_of}
 use Rattle.sheetlaws.specs.Routes.{elements_of}
 use Rattle.sheetlaws.specs.Starts.{OneStart}
-
-some_of : (o : Option ℕ) → is_some o ≡ true → (s : ℕ) × (o ≡ Some s)
-some_of None e = absurd (true≢false (sym e))
-some_of (Some s) e = (s, refl)
 
 -- what is passed from one port to another and is no signal lies in a section
 passed_kind : (k : Kind) (a b : ℕ) → is_signal k ≡ false → a < ports k → b < ports k → b ≢ a → is_sectioned k ≡ true
 passed_kind kind.Track a b n l m apart = refl
 passed_kind kind.Point a b n l m apart = refl
 passed_kind kind.Derailer a b n l m apart = refl
-passed_kind kind.Signal a b n l m apart = absurd (true≢false n)
+passed_kind kind.Signal a b n l m apart = cc
 passed_kind kind.PlanEnd a b n l m apart = absurd (apart (omega arith))
 
 -- the other port of two
@@ -80,7 +77,7 @@ module _ (es : List Element) (sound : SoundElements es) (c b : RouteClass) (P Q 
 
   -- from there on, they come to an element that both use
   along : (n m : ℕ) → p.body.0 ≤ m + n → Together m → Shared
-  along zero m h t = absurd (let none : ⊥ = omega (arith, t.before_one) in none)
+  along zero m h t = absurd (omega (arith, t.before_one))
   along (suc n) m h t = go (λ u. along n (suc m) (omega arith) u) (is_signal (kind_at es P (suc m))) refl
     where
       short_one : suc (suc m) < length P

@@ -6,12 +6,12 @@ use Rattle.layout.specs.declared.kind.Kind.TheVariants as kind
 use Rattle.layout.specs.declared.position.Position.{Position}
 use Rattle.layout.specs.declared.position.Position.TheVariants as position
 use Rattle.layout.specs.Ports.{at}
+use Rattle.layout.specs.Positions.{other}
 use Rattle.layout.specs.Sound.{SoundElements}
 use Rattle.layout.specs.Ways.{place, Runs}
 use Rattle.layout.specs.Uses.{Between, PassesBy, leg, PassesIn, FlankOf}
 use Rattle.paths.specs.Sound.{Within}
 use Rattle.walks.proofs.Legs.{low_entered, low_left, turned, ports_by, one_leg}
-use Rattle.sheets.specs.Wants.{other}
 
 pub twice_other : (p : Position) → other (other p) ≡ p
 twice_other position.Plus = refl

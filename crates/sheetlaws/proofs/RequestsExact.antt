@@ -1,11 +1,11 @@
 -- The sheet of a route tells exactly the elements that walks out of its flanks come to, with their positions.
 use Rattle.std.proofs.Common.{◌≡◌, ℕ, ◌<◌, Bool, true, false, cond, List, get_or, Some, None, sym, refl, ap, ◌∙◌, arith}
+use Rattle.std.proofs.lemmas.List.FromFn.{get_or-map-range_with_len}
 use Rattle.layout.specs.declared.drawing.Drawing.{Drawing}
 use Rattle.layout.specs.declared.element.Element.{Element}
 use Rattle.layout.specs.declared.position.Position.{Position}
 use Rattle.layout.specs.declared.position.Position.TheVariants as position
 use Rattle.layout.specs.declared.route.Route.{Route}
-use Rattle.layout.proofs.JoinPorts.{some_apart}
 use Rattle.flank.specs.declared.answers.Mark.{Mark}
 use Rattle.flank.specs.Search.{shield, unmarked}
 use Rattle.flank.specs.Protection.{route_marks}
@@ -20,12 +20,11 @@ use Rattle.plan.specs.Flanks.{route_of}
 use Rattle.plan.specs.Sound.{SoundPlan}
 use Rattle.sheetlaws.specs.Routes.{HasRoute, elements_of}
 use Rattle.sheetlaws.specs.Requests.{want_of, SheetRequestsExact}
-use Rattle.sheets.proofs.RuleTables.{by_rule_at}
 use Rattle.sheetlaws.proofs.Reading.{sheets_in_order}
 
 want_in : (es : List Element) (r : Route) (e : ℕ) → e < 96 → get_or (sheet_of es r).wants e no_want ≡ want_at es r e
 unfolding sheet_of wants_of
-want_in es r e h = by_rule_at 96 no_want (want_at es r) 96 e no_want h (omega arith)
+want_in es r e h = get_or-map-range_with_len (want_at es r) 0 96 e e no_want h (omega arith)
 
 pub want_is : (d : Drawing) → SoundPlan d → (i : ℕ) → HasRoute d i → (e : ℕ) → e < 96 → want_of d i e ≡ want_at (elements_of d) (route_of d i) e
 want_is d p i h e l =
@@ -35,12 +34,12 @@ want_is d p i h e l =
 asked_plus : (plus minus : Bool) → cond plus (Some position.Plus) (cond minus (Some position.Minus) None) ≡ Some position.Plus → plus ≡ true
 asked_plus true minus e = refl
 asked_plus false true e = cc
-asked_plus false false e = absurd (some_apart e)
+asked_plus false false e = cc
 
 asked_minus : (plus minus : Bool) → cond plus (Some position.Plus) (cond minus (Some position.Minus) None) ≡ Some position.Minus → minus ≡ true
 asked_minus true minus e = cc
 asked_minus false true e = refl
-asked_minus false false e = absurd (some_apart e)
+asked_minus false false e = cc
 
 minus_asked : (plus minus : Bool) → (plus ≡ true → ⊥) → minus ≡ true
     → cond plus (Some position.Plus) (cond minus (Some position.Minus) None) ≡ Some position.Minus

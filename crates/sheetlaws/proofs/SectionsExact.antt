@@ -1,14 +1,14 @@
 -- The sheet of a route tells exactly the sections that the route uses in its path and in its overlap.
 use Rattle.std.proofs.Common.{◌≡◌, ℕ, suc, ◌-◌, ◌<◌, true, List, length, get_or, is_some, Some, sym, refl, ap, ◌∙◌, subst, inl, inr, arith}
+use Rattle.std.proofs.lemmas.List.FromFn.{get_or-map-range_with_len}
 use Rattle.layout.specs.declared.element.Element.{Element}
 use Rattle.layout.specs.declared.route.Route.{Route}
 use Rattle.layout.specs.Kinds.{is_sectioned}
 use Rattle.layout.specs.Ports.{at}
 use Rattle.layout.specs.Sound.{SoundElements}
-use Rattle.layout.specs.Ways.{place}
+use Rattle.layout.specs.Ways.{place, inner}
 use Rattle.layout.specs.Uses.{path_of, overlap_of, Uses, UsesSectionInPath, UsesSectionInOverlap}
 use Rattle.paths.specs.Sound.{Within}
-use Rattle.flank.specs.Used.{inner}
 use Rattle.walks.proofs.Used.{inner_length, inner_place}
 use Rattle.walks.proofs.Flanks.{SoundRoute, sound_route}
 use Rattle.walks.proofs.Exactly.{overlap_within}
@@ -19,7 +19,6 @@ use Rattle.sheets.specs.Sheets.{no_sheet, sheet_of}
 use Rattle.plan.specs.Flanks.{route_of}
 use Rattle.sheetlaws.specs.Routes.{elements_of}
 use Rattle.sheetlaws.specs.Sections.{use_of, SectionsExact, SectionsInRange}
-use Rattle.sheets.proofs.RuleTables.{by_rule_at}
 use Rattle.sheetlaws.proofs.Reading.{sheets_in_order}
 use Rattle.sheetlaws.proofs.Places.{on_way_sound, on_way_from}
 
@@ -62,7 +61,7 @@ module _ (es : List Element) (sound : SoundElements es) (r : Route) (s : ℕ) wh
 
 section_at : (es : List Element) (r : Route) (s : ℕ) → s < 64 → get_or (sheet_of es r).sections s no_use ≡ section_use es r s
 unfolding sheet_of sections_of
-section_at es r s h = by_rule_at 64 no_use (section_use es r) 64 s no_use h (omega arith)
+section_at es r s h = get_or-map-range_with_len (section_use es r) 0 64 s s no_use h (omega arith)
 
 pub sections_exact : SectionsExact
 sections_exact d p i h s l =

@@ -1,11 +1,10 @@
--- A table that the calls of a closure fill is the table that a rule fills, where each call answers as the rule does.
-use Rattle.std.proofs.Common.{◌≡◌, ℕ, zero, suc, ◌+◌, ◌<◌, ◌≤◌, List, get_or, sym, ◌∙◌, subst, inl, inr, arith}
+-- A table that the calls of a closure fill is the table of a rule's values, where each call answers as the rule does.
+use Rattle.std.proofs.Common.{◌≡◌, ℕ, zero, suc, ◌+◌, ◌<◌, ◌≤◌, List, map, get_or, ◌∙◌, subst, inl, inr, arith}
 use Rattle.std.specs.Array.{IsFromFnResult, IsFromFnResultFrom}
 use Rattle.std.specs.Fn.{Mut, Called}
+use Rattle.std.specs.List.{range_with_len}
 use Rattle.std.proofs.lemmas.Bool.{cases_eq}
-use Rattle.std.proofs.lemmas.List.{ext_get_or}
-use Rattle.sheets.specs.Tables.{by_rule}
-use Rattle.sheets.proofs.RuleTables.{by_rule_length, by_rule_at}
+use Rattle.std.proofs.lemmas.List.FromFn.{fill_by_all}
 
 module _ {F X : Type 0} (g : Mut F (ℕ × Unit {0}) X) (f : F) (rule : ℕ → X) (size : ℕ) where
   -- each call answers as the rule does, and leaves the closure as it is
@@ -21,8 +20,6 @@ module _ {F X : Type 0} (g : Mut F (ℕ × Unit {0}) X) (f : F) (rule : ℕ → 
         | inr e ↦ filled_at follows xs blank n (i + 1) (subst (λ p. IsFromFnResultFrom g p xs (i + 1) n) kept rest) (omega arith) k (omega arith) (omega arith)
       ]
 
-  pub filled : (blank : X) (xs : List X) → IsFromFnResult g f xs size → Follows → xs ≡ by_rule size blank rule size
+  pub filled : (blank : X) (xs : List X) → IsFromFnResult g f xs size → Follows → xs ≡ map rule (range_with_len 0 size)
   filled blank xs made follows =
-      ext_get_or blank xs (by_rule size blank rule size) (made.long ∙ sym (by_rule_length size blank rule size))
-      (λ k h. filled_at follows xs blank size 0 made.each (omega arith) k (omega arith) (omega (arith, made.long))
-      ∙ sym (by_rule_at size blank rule size k blank (omega (arith, made.long)) (omega arith)))
+      fill_by_all rule xs size blank made.long (λ k h. filled_at follows xs blank size 0 made.each (omega arith) k (omega arith) (omega arith))

@@ -1,5 +1,4 @@
-pub mod AllNumbers
-mod AnyPlace
 mod Filling
 mod NumbersTurn
-pub mod RuleTables
+mod SheetsTurn
+pub mod SomeNumber

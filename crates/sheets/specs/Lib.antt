@@ -1,4 +1,3 @@
-pub mod Tables
 pub mod Wants
 pub mod Sections
 pub mod Lists

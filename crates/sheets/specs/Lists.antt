@@ -1,5 +1,5 @@
 -- Short lists of the numbers that a sheet is concerned with.
-use Rattle.std.specs.Prelude.{ℕ, zero, suc, Bool, true, cond, ◌&&◌, ◌||◌, List, [], ◌∷◌, is_some, slice_index_or}
+use Rattle.std.specs.Prelude.{ℕ, zero, suc, Bool, cond, ◌||◌, List, is_some, slice_index_or}
 use Rattle.bounded.specs.declared.bounded.Bounded.{Bounded}
 use Rattle.bounded.specs.Lists.{empty_of, pushed}
 use Rattle.sheets.specs.declared.sheet.SectionUse.{SectionUse}
@@ -31,8 +31,3 @@ is_used u = u.path || u.overlap
 -- The sections that are used.
 abbrev pub used_in : List SectionUse → Bounded ℕ 64
 used_in uses = numbers_where (λ (s : ℕ). is_used (slice_index_or uses s no_use)) 64
-
--- Every number of a list passes a test.
-abbrev pub all_of : (ℕ → Bool) → List ℕ → Bool
-all_of test [] = true
-all_of test (n ∷ ns) = test n && all_of test ns

@@ -1,5 +1,5 @@
 -- What is read off the sheets of a plan. A number that names nothing of the plan reads as nothing.
-use Rattle.std.specs.Prelude.{ℕ, Bool, true, false, cond, List, [], length, Some, None, Option, nat_lt, slice_index_or}
+use Rattle.std.specs.Prelude.{ℕ, Bool, true, false, List, [], length, None, Option, nat_lt, slice_index_or}
 use Rattle.bounded.specs.Lists.{listed}
 use Rattle.layout.specs.declared.kind.Kind.{Kind}
 use Rattle.layout.specs.declared.kind.Kind.TheVariants as kind
@@ -39,10 +39,6 @@ route_sheet t r = slice_index_or (listed t.routes) r past_the_end
 -- There is a route with a number.
 abbrev pub has_route : Sheets → ℕ → Bool
 has_route t r = nat_lt r (route_count t)
-
--- The same sheet, where there is such a route.
-abbrev pub sheet_at : Sheets → ℕ → Option RouteSheet
-sheet_at t r = cond (has_route t r) (Some (route_sheet t r)) None
 
 -- What a route wants of an element: its own need, and its request.
 abbrev pub want_of : RouteSheet → ℕ → Want

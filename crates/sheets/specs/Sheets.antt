@@ -1,5 +1,6 @@
 -- The sheets of a plan.
-use Rattle.std.specs.Prelude.{ℕ, ◌-◌, Bool, true, false, cond, ◌||◌, List, [], ◌∷◌, length, replicate, Some, None, Option, nat_lt, slice_index}
+use Rattle.std.specs.Prelude.{ℕ, ◌-◌, Bool, true, false, cond, ◌||◌, List, [], ◌∷◌, length, map, replicate, Some, None, Option, nat_lt, slice_index}
+use Rattle.std.specs.List.{range_with_len}
 use Rattle.bounded.specs.declared.bounded.Bounded.{Bounded}
 use Rattle.bounded.specs.Lists.{listed, empty_of, pushed}
 use Rattle.layout.specs.declared.drawing.Drawing.{Drawing}
@@ -17,7 +18,6 @@ use Rattle.sheets.specs.declared.sheet.RouteSheet.{RouteSheet}
 use Rattle.sheets.specs.declared.sheet.Sheets.{Sheets}
 use Rattle.sheets.specs.declared.sheet.Showing.{Showing}
 use Rattle.sheets.specs.declared.sheet.Showing.TheVariants as showing
-use Rattle.sheets.specs.Tables.{by_rule}
 use Rattle.sheets.specs.Wants.{no_want, wants_of}
 use Rattle.sheets.specs.Sections.{no_use, sections_of, known_of}
 use Rattle.sheets.specs.Lists.{wanted_in, used_in}
@@ -30,10 +30,6 @@ showing_by class.Train false = showing.Proceed
 -- A shunting route shows shunting, a train route with a zero overlap slow, any other train route proceed.
 abbrev pub showing_of : Route → Showing
 showing_of r = showing_by r.class r.zero_overlap
-
--- The first element of a path.
-abbrev pub first_of : List ℕ → ℕ
-first_of path = cond (nat_lt 0 (length path)) (slice_index path 0) 0
 
 abbrev pub signal_at : List Element → ℕ → Option ℕ
 signal_at es e = cond (is_signal (at es e).kind) (Some e) None
@@ -51,11 +47,11 @@ abbrev pub end_lamp_of : List Element → Option ℕ → Bool → Option ℕ
 end_lamp_of es None zeroed = None
 end_lamp_of es (Some signal) zeroed = cond (zeroed || is_spared (at es signal).marks) None (Some signal)
 
--- The sheet of a route.
+-- The sheet of a route. Where there is no path, 0 stands for its start signal.
 unfoldable pub sheet_of : List Element → Route → RouteSheet
 sheet_of es r = record {
   showing = showing_of r;
-  first = first_of (path_of r);
+  first = slice_index (path_of r) 0;
   last_signal = last_signal_of es (path_of r);
   end_lamp = end_lamp_of es (last_signal_of es (path_of r)) r.zero_overlap;
   wants = wants_of es r;
@@ -85,7 +81,7 @@ abbrev pub no_element_sheet : ElementSheet
 no_element_sheet = record { kind = kind.Track; section = None }
 
 unfoldable pub element_sheets : List Element → List ElementSheet
-element_sheets es = by_rule 96 no_element_sheet (element_sheet es) 96
+element_sheets es = map (element_sheet es) (range_with_len 0 96)
 
 abbrev pub with_sheets : List Element → List Route → Bounded RouteSheet 64 → Bounded RouteSheet 64
 with_sheets es [] b = b

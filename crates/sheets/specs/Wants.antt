@@ -1,5 +1,6 @@
 -- What a route wants of each element.
-use Rattle.std.specs.Prelude.{ℕ, Bool, false, cond, ◌&&◌, List, length, Some, None, Option, ◌==◌, nat_lt, slice_index, slice_index_or}
+use Rattle.std.specs.Prelude.{ℕ, Bool, false, cond, ◌&&◌, List, length, map, Some, None, Option, ◌==◌, nat_lt, slice_index, slice_index_or}
+use Rattle.std.specs.List.{range_with_len}
 use Rattle.layout.specs.declared.element.Element.{Element}
 use Rattle.layout.specs.declared.kind.Kind.{Kind}
 use Rattle.layout.specs.declared.kind.Kind.TheVariants as kind
@@ -7,6 +8,7 @@ use Rattle.layout.specs.declared.position.Position.{Position}
 use Rattle.layout.specs.declared.position.Position.TheVariants as position
 use Rattle.layout.specs.declared.route.Route.{Route}
 use Rattle.layout.specs.Ports.{at}
+use Rattle.layout.specs.Positions.{other}
 use Rattle.layout.specs.Uses.{path_of}
 use Rattle.flank.specs.declared.answers.Mark.{Mark}
 use Rattle.flank.specs.declared.flanks.Flank.{Flank}
@@ -15,11 +17,6 @@ use Rattle.flank.specs.Flanks.{flank_of}
 use Rattle.flank.specs.Search.{unmarked}
 use Rattle.flank.specs.Protection.{route_marks}
 use Rattle.sheets.specs.declared.sheet.Want.{Want}
-use Rattle.sheets.specs.Tables.{by_rule}
-
-abbrev pub other : Position → Position
-other position.Plus = position.Minus
-other position.Minus = position.Plus
 
 -- The position in which an element is requested; no element of a checked plan is requested in both.
 abbrev pub requested : Mark → Option Position
@@ -59,4 +56,4 @@ no_want = record { need = None; request = None }
 
 -- What a route wants, by element.
 unfoldable pub wants_of : List Element → Route → List Want
-wants_of es r = by_rule 96 no_want (want_at es r) 96
+wants_of es r = map (want_at es r) (range_with_len 0 96)

@@ -9,10 +9,7 @@ use crate::sheet::{SectionUse, Want};
 
 /// What a route has to do with one of the things of a plan, if anything.
 pub trait Concern: Copy {
-    /// Nothing at all.
-    const NOTHING: Self;
-
-    ghost NOTHING: { Self };
+    ghost nothing: { Self };
 
     ghost is_any: { Self → Bool };
 
@@ -22,12 +19,7 @@ pub trait Concern: Copy {
 }
 
 impl Concern for Want {
-    const NOTHING: Want = Want {
-        need: None,
-        request: None,
-    };
-
-    ghost NOTHING = { no_want };
+    ghost nothing = { no_want };
 
     ghost is_any = { is_wanted };
 
@@ -37,12 +29,7 @@ impl Concern for Want {
 }
 
 impl Concern for SectionUse {
-    const NOTHING: SectionUse = SectionUse {
-        path: false,
-        overlap: false,
-    };
-
-    ghost NOTHING = { no_use };
+    ghost nothing = { no_use };
 
     ghost is_any = { is_used };
 

@@ -4,7 +4,6 @@ ghost use Rattle.std.specs.Prelude.{◌≡◌};
 ghost use Rattle.bounded.specs.Lists.{empty_of};
 ghost use Rattle.sheets.specs.Sheets.{element_sheets, no_sheet, route_sheets, sheets_of};
 
-use crate::concern::Concern;
 use crate::route::sheet_of;
 use crate::sections::known_of;
 use crate::sheet::{ElementSheet, RouteSheet, SectionUse, Sheets, Showing, Want};
@@ -39,14 +38,15 @@ fn no_routes() -> Bounded<RouteSheet, 64>
         first: 0,
         last_signal: None,
         end_lamp: None,
-        wants: [Want::NOTHING; 96],
+        wants: [Want::default(); 96],
         wanted: Bounded::empty(0),
-        sections: [SectionUse::NOTHING; 64],
+        sections: [SectionUse::default(); 64],
         used: Bounded::empty(0),
     })
 }
 
 /// The sheets of routes, in their order.
+#[tactic(auto, using(crate::proofs::SheetsTurn::sheets_more, crate::proofs::SheetsTurn::sheets_all), unfolding(crate::specs::Sheets::route_sheets))]
 fn route_sheets(elements: &[Element], routes: &[Route]) -> Bounded<RouteSheet, 64>
     ensures { result ≡ route_sheets elements.now routes.now }
 {

@@ -1,10 +1,11 @@
 //! What is read off the sheets of a plan. A number that names nothing of the plan reads as nothing.
 
 ghost use Rattle.std.specs.Prelude.{◌≡◌};
+ghost use Rattle.std.specs.List.{slice_get};
 ghost use Rattle.std.specs.Option.{option_map};
-ghost use Rattle.sheets.specs.Reading.{sheet_at, want_of, use_of, element_of, moves, has_section};
+ghost use Rattle.bounded.specs.Lists.{listed};
+ghost use Rattle.sheets.specs.Reading.{want_of, use_of, element_of, moves, has_section};
 
-use crate::concern::Concern;
 use crate::sheet::{ElementSheet, RouteSheet, SectionUse, Sheets, Want};
 use layout::kind::Kind;
 use tables::table::at_or;
@@ -23,21 +24,21 @@ impl RouteSheet {
     pub fn want(&self, element: u8) -> Want
         ensures { result ≡ want_of self.now element }
     {
-        at_or(&self.wants, element as usize, Want::NOTHING)
+        at_or(&self.wants, element as usize, Want::default())
     }
 
     /// How the route uses a section.
     pub fn use_of(&self, section: u8) -> SectionUse
         ensures { result ≡ use_of self.now section }
     {
-        at_or(&self.sections, section as usize, SectionUse::NOTHING)
+        at_or(&self.sections, section as usize, SectionUse::default())
     }
 }
 
 impl Sheets {
     /// The sheet of a route, if there is such a route.
     pub fn route(&self, route: usize) -> Option<&RouteSheet>
-        ensures { option_map (λ x. x.now) result ≡ sheet_at self.now route }
+        ensures { option_map (λ x. x.now) result ≡ slice_get (listed self.now.routes) route }
     {
         self.routes.as_slice().get(route)
     }
@@ -46,11 +47,7 @@ impl Sheets {
     pub fn element(&self, element: u8) -> ElementSheet
         ensures { result ≡ element_of self.now element }
     {
-        let none = ElementSheet {
-            kind: Kind::Track,
-            section: None,
-        };
-        at_or(&self.elements, element as usize, none)
+        at_or(&self.elements, element as usize, ElementSheet::default())
     }
 
     /// Whether some element of the plan lies in a section.

@@ -1,7 +1,7 @@
 //! The sheet of one route.
 
 ghost use Rattle.std.specs.Prelude.{◌≡◌};
-ghost use Rattle.sheets.specs.Sheets.{showing_of, first_of, signal_at, is_spared, last_signal_of, end_lamp_of, sheet_of};
+ghost use Rattle.sheets.specs.Sheets.{showing_of, signal_at, is_spared, last_signal_of, end_lamp_of, sheet_of};
 
 use crate::lists::numbers_in;
 use crate::sections::sections_of;
@@ -40,13 +40,6 @@ fn is_spared(marks: Option<Marks>) -> bool
     marks.is_some_and(|marks| marks.lamp_spared)
 }
 
-/// The first element of a path.
-fn first_of(path: &[u8]) -> u8
-    ensures { result ≡ first_of path.now }
-{
-    path.first().copied().unwrap_or(0)
-}
-
 /// The signal at which a path ends.
 fn last_signal_of(elements: &[Element], path: &[u8]) -> Option<u8>
     ensures { result ≡ last_signal_of elements.now path.now }
@@ -74,7 +67,7 @@ pub(crate) fn sheet_of(elements: &[Element], route: &Route) -> RouteSheet
     let sections = sections_of(elements, route);
     RouteSheet {
         showing: showing_of(route),
-        first: first_of(path),
+        first: path.first().copied().unwrap_or(0),
         last_signal,
         end_lamp: end_lamp_of(elements, last_signal, route.zero_overlap),
         wants,

@@ -4,10 +4,10 @@ ghost use Rattle.std.specs.Prelude.{◌≡◌};
 ghost use Rattle.sheets.specs.Sections.{lies_in, is_on_way, section_use, sections_of, is_known, known_of};
 
 use crate::sheet::SectionUse;
-use flank::used::inner;
 use layout::element::Element;
 use layout::ports::element_at;
 use layout::route::Route;
+use layout::ways::inner;
 use std::array;
 
 /// Whether an element lies in a section.
@@ -18,6 +18,7 @@ fn lies_in(element: &Element, section: u8) -> bool
 }
 
 /// Whether some element of a way lies in a section.
+#[tactic(auto, unfolding(crate::specs::Sections::is_on_way))]
 fn is_on_way(elements: &[Element], way: &[u8], section: u8) -> bool
     ensures { result ≡ is_on_way elements.now way.now section }
 {
@@ -42,6 +43,7 @@ pub(crate) fn sections_of(elements: &[Element], route: &Route) -> [SectionUse; 6
 }
 
 /// Whether some element lies in a section.
+#[tactic(auto, unfolding(crate::specs::Sections::is_known))]
 fn is_known(elements: &[Element], section: u8) -> bool
     ensures { result ≡ is_known elements.now section }
 {

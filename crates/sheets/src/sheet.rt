@@ -5,7 +5,7 @@ use layout::kind::Kind;
 use layout::position::Position;
 
 /// What the start signal of a route shows when the route is clear.
-#[derive(Clone, Copy)]
+#[derive(Clone, Copy, PartialEq, Eq)]
 pub enum Showing {
     /// Shunting is allowed.
     Shunting,
@@ -16,7 +16,7 @@ pub enum Showing {
 }
 
 /// What a route wants of an element.
-#[derive(Clone, Copy)]
+#[derive(Clone, Copy, PartialEq, Eq, Default)]
 pub struct Want {
     /// The position in which the route itself needs it: a point as it is passed, a derailer off, its start signal in use.
     pub need: Option<Position>,
@@ -25,7 +25,7 @@ pub struct Want {
 }
 
 /// Whether a route uses a section in its path, and in its overlap.
-#[derive(Clone, Copy)]
+#[derive(Clone, Copy, PartialEq, Eq, Default)]
 pub struct SectionUse {
     pub path: bool,
     pub overlap: bool,
@@ -35,7 +35,7 @@ pub struct SectionUse {
 #[derive(Clone, Copy)]
 pub struct RouteSheet {
     pub showing: Showing,
-    /// The start signal.
+    /// The start signal, which is the first element of the path; 0 where there is no path.
     pub first: u8,
     /// The signal at which the path ends, if it ends at one.
     pub last_signal: Option<u8>,
@@ -52,7 +52,7 @@ pub struct RouteSheet {
 }
 
 /// All that the acts need to know of an element.
-#[derive(Clone, Copy)]
+#[derive(Clone, Copy, PartialEq, Eq, Default)]
 pub struct ElementSheet {
     pub kind: Kind,
     pub section: Option<u8>,

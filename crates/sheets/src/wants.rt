@@ -1,7 +1,7 @@
 //! What a route wants of each element.
 
 ghost use Rattle.std.specs.Prelude.{◌≡◌};
-ghost use Rattle.sheets.specs.Wants.{other, requested, moved_need, need_at, wants_of};
+ghost use Rattle.sheets.specs.Wants.{requested, moved_need, need_at, wants_of};
 
 use crate::sheet::Want;
 use flank::answers::Mark;
@@ -15,35 +15,19 @@ use layout::position::Position;
 use layout::route::Route;
 use std::array;
 
-/// The other position.
-fn other(position: Position) -> Position
-    ensures { result ≡ other position }
-{
-    match position {
-        Position::Plus => Position::Minus,
-        Position::Minus => Position::Plus,
-    }
-}
-
 /// The position in which an element is requested.
 fn requested(mark: Mark) -> Option<Position>
     ensures { result ≡ requested mark }
 {
-    match (mark.plus, mark.minus) {
-        (true, _) => Some(Position::Plus),
-        (false, true) => Some(Position::Minus),
-        (false, false) => None,
-    }
+    let plus = mark.plus.then_some(Position::Plus);
+    plus.or(mark.minus.then_some(Position::Minus))
 }
 
 /// The need of an element that the route uses or not: a derailer off.
 fn derailer_need(kind: Kind, used: bool) -> Option<Position>
     ensures { result ≡ moved_need kind used }
 {
-    match (kind, used) {
-        (Kind::Derailer, true) => Some(Position::Minus),
-        _ => None,
-    }
+    (used && kind == Kind::Derailer).then_some(Position::Minus)
 }
 
 /// The position in which the route itself needs an element.
@@ -54,7 +38,7 @@ fn need_at(elements: &[Element], route: &Route, used: bool, number: u8) -> Optio
         return Some(Position::Minus);
     }
     flank_of(elements, route, number)
-        .map(|flank| other(flank.leg))
+        .map(|flank| flank.leg.other())
         .or_else(|| derailer_need(element_at(elements, number as usize).kind, used))
 }
 

@@ -1,1 +1,5 @@
+pub mod Commands
+pub mod Digits
+pub mod Mistakes
 pub mod Telling
+pub mod Words

@@ -1,5 +1,5 @@
 -- What a field means after it was told or ordered by the numbers of a command.
-use Rattle.std.specs.Prelude.{ℕ, Option, Some, None, cond, nat_lt, ◌==◌}
+use Rattle.std.specs.Prelude.{ℕ, List, Option, Some, None, cond, nat_lt, ◌==◌, ◌++◌, codes, decimal}
 use Rattle.layout.specs.Numbers.{position_number, position_with}
 use Rattle.layout.specs.declared.position.Position.{Position}
 use Rattle.field.specs.Meaning.{Meaning, ordered, told_report, told_block, told_lamp, told_occupation}
@@ -12,6 +12,20 @@ use Rattle.spoken.specs.declared.telling.Ordering.{Ordering}
 abbrev pub number_of_report : Option Position → ℕ
 number_of_report (Some p) = position_number p
 number_of_report None = 2
+
+-- The word for what is told of.
+abbrev pub news_word : News → List ℕ
+news_word Report = codes "report"
+news_word Block = codes "block"
+news_word Lamp = codes "lamp"
+news_word Occupied = codes "occupied"
+
+-- A telling and an order are printed as the command that they came from.
+abbrev pub telling_text : Telling → List ℕ
+telling_text t = codes "tell " ++ (news_word t.news ++ (codes " " ++ (decimal t.number ++ (codes " " ++ decimal t.value))))
+
+abbrev pub ordering_text : Ordering → List ℕ
+ordering_text o = codes "order " ++ (decimal o.element ++ (codes " " ++ decimal o.position))
 
 -- A report of 0 to 2 is told, and a block, a lamp and an occupation of 0 or 1; any other value is not.
 abbrev pub after_news : Meaning → News → ℕ → ℕ → Meaning

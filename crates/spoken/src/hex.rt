@@ -1,6 +1,9 @@
 //! Bytes written in hexadecimal digits.
 
-ghost use Rattle.std.specs.Prelude.{◌<◌, IfOk};
+ghost use Rattle.std.specs.Prelude.{◌≡◌, ◌≢◌, ◌<◌, IfOk, Ok, Err, MatchResult};
+ghost use Rattle.std.specs.Vec.{vec_items};
+ghost use Rattle.spoken.specs.Digits.{hex_fault_text, is_gap, digit_in, byte_in, bytes_in, picture_in};
+ghost use Rattle.spoken.specs.declared.hex.HexFault.TheVariants.{OutOfMemory};
 
 use std::alloc::{AllocError, AllocFailed, Global};
 use std::error::Error;
@@ -19,6 +22,8 @@ pub enum HexFault {
 }
 
 impl fmt::Display for HexFault {
+    ghost output = { hex_fault_text };
+
     fn fmt<W: fmt::Write>(&self, f: &mut fmt::Formatter<W>) -> fmt::Result {
         match self {
             HexFault::NoDigit => f.write_str(
@@ -34,51 +39,64 @@ impl fmt::Display for HexFault {
 impl Error for HexFault {}
 
 impl From<AllocError> for HexFault {
+    ghost from_gives = { λ _ fault. fault ≡ OutOfMemory };
+
     fn from(_error: AllocError) -> HexFault {
         HexFault::OutOfMemory
     }
 }
 
 impl<T: Drop> From<AllocFailed<T>> for HexFault {
+    ghost from_gives = { λ _ fault. fault ≡ OutOfMemory };
+
     fn from(_error: AllocFailed<T>) -> HexFault {
         HexFault::OutOfMemory
     }
 }
 
 /// What may stand between bytes.
-const GAPS: [char; 3] = [' ', '\t', '|'];
+#[tactic(auto, unfolding(crate::specs::Digits::is_gap))]
+fn is_gap(sign: u8) -> bool
+    ensures { result ≡ is_gap sign }
+{
+    matches!(sign, b' ' | b'\t' | b'|')
+}
 
 fn digit(sign: u8) -> Result<u8, HexFault>
-    ensures { IfOk result (λ digit. digit < 16) }
+    ensures bound { IfOk result (λ digit. digit < 16) }
+    ensures digit { result ≡ digit_in sign }
 {
-    match sign {
-        b'0'..=b'9' => Ok(sign - b'0'),
-        b'a'..=b'f' => Ok(sign - b'a' + 10),
-        b'A'..=b'F' => Ok(sign - b'A' + 10),
-        _ => Err(HexFault::NoDigit),
-    }
+    let digit = char::from(sign).to_digit(16).ok_or(HexFault::NoDigit)?;
+    Ok(digit as u8)
 }
 
 /// The byte that two digits spell.
-fn byte(digits: &[u8]) -> Result<u8, HexFault> {
+fn byte(digits: &[u8]) -> Result<u8, HexFault>
+    ensures { result ≡ byte_in digits.now }
+{
     match digits {
-        [high, low] => Ok(digit(*high)? * 16 + digit(*low)?),
-        [lone, ..] => digit(*lone).and(Err(HexFault::HalfByte)),
+        [high, low, ..] => Ok(digit(*high)? * 16 + digit(*low)?),
+        [lone] => digit(*lone).and(Err(HexFault::HalfByte)),
         [] => Err(HexFault::HalfByte),
     }
 }
 
 /// The bytes that a text spells, with blanks, tabs or bars between them.
-pub fn bytes_of(heap: Global, text: &str) -> Result<Vec<u8>, HexFault> {
+pub fn bytes_of(heap: Global, text: &str) -> Result<Vec<u8>, HexFault>
+    ensures { MatchResult result (λ bytes. bytes_in text.now ≡ Ok (vec_items bytes)) (λ fault. fault ≢ OutOfMemory → bytes_in text.now ≡ Err fault) }
+{
     let mut bytes = Vec::new(heap);
-    for digits in text.split(GAPS).flat_map(|word| word.as_bytes().chunks(2)) {
+    let words = text.as_bytes().split(|sign| is_gap(*sign));
+    for digits in words.flat_map(|word| word.chunks(2)) {
         bytes.push(byte(digits)?)?;
     }
     Ok(bytes)
 }
 
 /// The bytes of a contact picture that a text spells.
-pub fn picture_of(heap: Global, text: &str) -> Result<[u8; 104], HexFault> {
+pub fn picture_of(heap: Global, text: &str) -> Result<[u8; 104], HexFault>
+    ensures { MatchResult result (λ picture. picture_in text.now ≡ Ok picture) (λ fault. fault ≢ OutOfMemory → picture_in text.now ≡ Err fault) }
+{
     let bytes = bytes_of(heap, text)?;
     <[u8; 104]>::try_from(bytes.as_slice()).map_err(|_| HexFault::NoPicture)
 }

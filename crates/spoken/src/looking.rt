@@ -1,13 +1,14 @@
 //! What can be seen at any time: the field and the flanks of routes.
 
 use crate::asked::Look;
+use crate::mistake::print_error;
 use crate::telling::number_of;
 use equipment::equipment::Equipment;
 use field::field::Field;
 use flank::answers::{Branch, Request};
-use layout::position::Position;
 use plan::plan::Plan;
-use std::{fmt, io};
+use std::io;
+use viewing::listing::print_listed;
 
 /// No route has more requests, nor more open branches, than these lists have places.
 pub const MOST_REQUESTS: usize = 192;
@@ -43,7 +44,7 @@ fn show_field(rt: &HostRuntime, plan: &Plan, field: &Equipment) -> io::Result<()
 /// Prints the bytes of the contact picture.
 fn show_contacts(rt: &HostRuntime, field: &Equipment) -> io::Result<()> {
     let Some(bytes) = field.contact_bytes() else {
-        return println!(rt; "error: the field is a table");
+        return print_error(rt, "the field is a table");
     };
     print!(rt; "contacts: ")?;
     for byte in bytes {
@@ -52,33 +53,13 @@ fn show_contacts(rt: &HostRuntime, field: &Equipment) -> io::Result<()> {
     println!(rt; "")
 }
 
-/// Prints each item on a line of its own.
-pub fn print_lines<T: fmt::Display>(rt: &HostRuntime, items: &[T]) -> io::Result<()> {
-    for item in items {
-        println!(rt; "  {item}")?;
-    }
-    Ok(())
-}
-
 /// Prints what a route requests at its flanks, and which branches stay open.
 fn show_flanks(rt: &HostRuntime, plan: &Plan, route: u8) -> anyhow::Result<()> {
-    let request = Request {
-        element: 0,
-        position: Position::Plus,
-    };
-    let mut requests = vec![in rt.alloc(); request; MOST_REQUESTS]?;
-    let mut branches = vec![in rt.alloc(); Branch { from: 0, last: 0 }; MOST_BRANCHES]?;
+    let mut requests = vec![in rt.alloc(); Request::default(); MOST_REQUESTS]?;
+    let mut branches = vec![in rt.alloc(); Branch::default(); MOST_BRANCHES]?;
+    let counts = plan.flanks(route, requests.as_mut_slice(), branches.as_mut_slice());
     print!(rt; "flanks {route}: ")?;
-    match plan.flanks(route, requests.as_mut_slice(), branches.as_mut_slice()) {
-        Ok((request_count, branch_count)) => {
-            println!(rt; "{request_count} requests, {branch_count} open branches")?;
-            requests.truncate(request_count);
-            branches.truncate(branch_count);
-            print_lines(rt, requests.as_slice())?;
-            print_lines(rt, branches.as_slice())?;
-        }
-        Err(refusal) => println!(rt; "{refusal}")?,
-    }
+    print_listed(rt, counts, requests.as_slice(), branches.as_slice())?;
     Ok(())
 }
 

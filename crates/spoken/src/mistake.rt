@@ -1,7 +1,9 @@
 //! Lines that no command is.
 
+ghost use Rattle.spoken.specs.Mistakes.{mistake_text};
+
 use std::error::Error;
-use std::fmt;
+use std::{fmt, io};
 
 /// Why a line is no command.
 #[derive(Clone, Copy, Debug, PartialEq, Eq)]
@@ -17,6 +19,10 @@ pub enum Mistake {
 }
 
 impl fmt::Display for Mistake {
+    ghost use Rattle.std.specs.Prelude.{Some};
+
+    ghost output = { λ mistake. Some (mistake_text mistake) };
+
     fn fmt<W: fmt::Write>(&self, f: &mut fmt::Formatter<W>) -> fmt::Result {
         f.write_str(match self {
             Mistake::NoText => "the line is no text",
@@ -32,3 +38,8 @@ impl fmt::Display for Mistake {
 }
 
 impl Error for Mistake {}
+
+/// Prints what is wrong with a line.
+pub fn print_error<E: fmt::Display + Drop>(rt: &HostRuntime, error: E) -> io::Result<()> {
+    println!(rt; "error: {error}")
+}

@@ -2,6 +2,7 @@
 
 use crate::asked::Work;
 use crate::hex::{HexFault, bytes_of, picture_of};
+use crate::mistake::print_error;
 use equipment::equipment::Equipment;
 use plan::plan::Plan;
 
@@ -10,7 +11,7 @@ fn print_fault(rt: &HostRuntime, fault: HexFault) -> anyhow::Result<()> {
     if fault == HexFault::OutOfMemory {
         return Err(fault.into());
     }
-    println!(rt; "error: {fault}")?;
+    print_error(rt, fault)?;
     Ok(())
 }
 

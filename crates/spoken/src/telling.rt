@@ -1,7 +1,7 @@
 //! What a field is told, and how it is ordered, in the numbers of a command.
 
 ghost use Rattle.std.specs.Prelude.{◌≡◌};
-ghost use Rattle.spoken.specs.Telling.{number_of_report, after_telling, after_ordering};
+ghost use Rattle.spoken.specs.Telling.{number_of_report, after_telling, after_ordering, news_word, telling_text, ordering_text};
 
 use crate::mistake::Mistake;
 use field::field::Field;
@@ -17,6 +17,8 @@ pub enum News {
     Lamp,
     Occupied,
 }
+
+const ALL_NEWS: [News; 4] = [News::Report, News::Block, News::Lamp, News::Occupied];
 
 /// What a field is told of an element or a section.
 #[derive(Clone, Copy)]
@@ -37,7 +39,20 @@ pub struct Ordering {
 pub fn number_of(position: Option<Position>) -> u8
     ensures { result ≡ number_of_report position }
 {
-    position.map_or(2, |position| position.number())
+    position.map_or(2, Position::number)
+}
+
+impl News {
+    fn word(self) -> &'static str
+        ensures { result.now ≡ news_word self }
+    {
+        match self {
+            News::Report => "report",
+            News::Block => "block",
+            News::Lamp => "lamp",
+            News::Occupied => "occupied",
+        }
+    }
 }
 
 impl Telling {
@@ -74,29 +89,36 @@ impl Ordering {
 impl FromStr for News {
     type Err = Mistake;
 
+    ghost use Rattle.std.specs.Option.{ok_or};
+    ghost use Rattle.spoken.specs.Commands.{news_in};
+    ghost use Rattle.spoken.specs.declared.mistake.Mistake.TheVariants.{NoNews};
+
+    ghost from_str_gives = { λ word answer. answer ≡ ok_or (news_in word) NoNews };
+
     fn from_str(word: &str) -> Result<News, Mistake> {
-        match word {
-            "report" => Ok(News::Report),
-            "block" => Ok(News::Block),
-            "lamp" => Ok(News::Lamp),
-            "occupied" => Ok(News::Occupied),
-            _ => Err(Mistake::NoNews),
-        }
+        ALL_NEWS
+            .iter()
+            .copied()
+            .find(|news| news.word() == word)
+            .ok_or(Mistake::NoNews)
     }
 }
 
 impl fmt::Display for News {
+    ghost use Rattle.std.specs.Prelude.{Some};
+
+    ghost output = { λ news. Some (news_word news) };
+
     fn fmt<W: fmt::Write>(&self, f: &mut fmt::Formatter<W>) -> fmt::Result {
-        f.write_str(match self {
-            News::Report => "report",
-            News::Block => "block",
-            News::Lamp => "lamp",
-            News::Occupied => "occupied",
-        })
+        f.write_str(self.word())
     }
 }
 
 impl fmt::Display for Telling {
+    ghost use Rattle.std.specs.Prelude.{Some};
+
+    ghost output = { λ telling. Some (telling_text telling) };
+
     fn fmt<W: fmt::Write>(&self, f: &mut fmt::Formatter<W>) -> fmt::Result {
         let Telling {
             news,
@@ -108,9 +130,9 @@ impl fmt::Display for Telling {
 }
 
 impl fmt::Display for Ordering {
-    ghost use Rattle.std.specs.Prelude.{Some, codes, decimal, ◌++◌};
+    ghost use Rattle.std.specs.Prelude.{Some};
 
-    ghost output = { λ order. Some (codes "order " ++ (decimal order.element ++ (codes " " ++ decimal order.position))) };
+    ghost output = { λ order. Some (ordering_text order) };
 
     fn fmt<W: fmt::Write>(&self, f: &mut fmt::Formatter<W>) -> fmt::Result {
         let Ordering { element, position } = self;

@@ -1,7 +1,11 @@
 //! What the words of a line ask for.
 
 ghost use Rattle.std.specs.Prelude.{◌≡◌, ◌<◌, ◌==◌, length, is_ok, IfOk, IfErr, IfSome};
+ghost use Rattle.std.specs.Option.{option_map, ok_or};
 ghost use Rattle.std.specs.Str.Parse.{digits_value};
+ghost use Rattle.std.specs.Result.{result_map_both};
+ghost use Rattle.spoken.specs.Commands.{both_texts, command_in, wish_of, wish_of_work, wish_in, field_in, telling_in, order_in, look_in};
+ghost use Rattle.spoken.specs.Words.{number_in, two_numbers_in};
 ghost use Rattle.spoken.specs.declared.mistake.Mistake.TheVariants.{WordTooMany, WantsOneNumber, WantsTwoNumbers};
 
 use crate::asked::{Asked, Look, Work};
@@ -11,7 +15,8 @@ use crate::words::{first_word, number, two_numbers};
 
 /// The name of the command on a line, and the words after it; none where the line is empty or a comment.
 pub fn command_on<'a>(line: &'a str) -> Option<(&'a str, &'a str)>
-    ensures { IfSome result (λ command. 0 < length command.0.now) }
+    ensures named { IfSome result (λ command. 0 < length command.0.now) }
+    ensures command { option_map both_texts result ≡ command_in line.now }
 {
     let (name, rest) = first_word(line);
     if name.is_empty() || name.starts_with('#') {
@@ -37,19 +42,23 @@ pub fn wants_nothing(rest: &str) -> Result<(), Mistake>
 pub fn one_wanted(rest: &str) -> Result<u8, Mistake>
     ensures number { IfOk result (λ n. n ≡ digits_value 10 rest.now) }
     ensures mistake { IfErr result (λ mistake. mistake ≡ WantsOneNumber) }
+    ensures wanted { result ≡ ok_or (number_in rest.now) WantsOneNumber }
 {
     number(rest).ok_or(Mistake::WantsOneNumber)
 }
 
 /// The numbers after a command that wants two.
 pub fn two_wanted(rest: &str) -> Result<(u8, u8), Mistake>
-    ensures { IfErr result (λ mistake. mistake ≡ WantsTwoNumbers) }
+    ensures mistake { IfErr result (λ mistake. mistake ≡ WantsTwoNumbers) }
+    ensures wanted { result ≡ ok_or (two_numbers_in rest.now) WantsTwoNumbers }
 {
     two_numbers(rest).ok_or(Mistake::WantsTwoNumbers)
 }
 
 /// What a command asks for.
-pub fn asked<'a>(name: &str, rest: &'a str) -> Result<Asked<'a>, Mistake> {
+pub fn asked<'a>(name: &str, rest: &'a str) -> Result<Asked<'a>, Mistake>
+    ensures { result_map_both wish_of (λ mistake. mistake) result ≡ wish_in name.now rest.now }
+{
     match name {
         "plan" => Ok(Asked::Plan(rest)),
         "field" => Ok(Asked::Field(field(rest)?)),
@@ -59,7 +68,9 @@ pub fn asked<'a>(name: &str, rest: &'a str) -> Result<Asked<'a>, Mistake> {
     }
 }
 
-fn look(name: &str, rest: &str) -> Result<Look, Mistake> {
+fn look(name: &str, rest: &str) -> Result<Look, Mistake>
+    ensures { result ≡ look_in name.now rest.now }
+{
     match name {
         "flanks" => Ok(Look::Flanks(one_wanted(rest)?)),
         "element" => Ok(Look::Element(one_wanted(rest)?)),
@@ -70,7 +81,9 @@ fn look(name: &str, rest: &str) -> Result<Look, Mistake> {
     }
 }
 
-fn field<'a>(rest: &'a str) -> Result<Work<'a>, Mistake> {
+fn field<'a>(rest: &'a str) -> Result<Work<'a>, Mistake>
+    ensures { result_map_both wish_of_work (λ mistake. mistake) result ≡ field_in rest.now }
+{
     let (form, digits) = first_word(rest);
     match (form, digits.is_empty()) {
         ("table", true) => Ok(Work::Table),
@@ -79,7 +92,9 @@ fn field<'a>(rest: &'a str) -> Result<Work<'a>, Mistake> {
     }
 }
 
-fn telling<'a>(rest: &'a str) -> Result<Work<'a>, Mistake> {
+fn telling<'a>(rest: &'a str) -> Result<Work<'a>, Mistake>
+    ensures { result_map_both wish_of_work (λ mistake. mistake) result ≡ telling_in rest.now }
+{
     let (word, numbers) = first_word(rest);
     let news = word.parse::<News>()?;
     let (number, value) = two_wanted(numbers)?;
@@ -90,7 +105,9 @@ fn telling<'a>(rest: &'a str) -> Result<Work<'a>, Mistake> {
     }))
 }
 
-fn order<'a>(rest: &'a str) -> Result<Work<'a>, Mistake> {
+fn order<'a>(rest: &'a str) -> Result<Work<'a>, Mistake>
+    ensures { result_map_both wish_of_work (λ mistake. mistake) result ≡ order_in rest.now }
+{
     let (element, position) = two_wanted(rest)?;
     Ok(Work::Order(Ordering { element, position }))
 }

@@ -1,21 +1,12 @@
 -- One entry more of a journal is answered, and what is left comes to the same end.
 use Rattle.std.proofs.Common.{◌≡◌, ℕ, ◌+◌, ◌<◌, ◌≤◌, List, [], ◌∷◌, ◌++◌, length, get_or, take, drop, set, fold, refl, append_assoc, append-nil, arith}
 use Rattle.std.proofs.lemmas.List.{drop_more, drop_all, drop-set-lt, take_all, take_more_set}
-use Rattle.std.specs.Prelude.{Result, Ok, Err}
-use Rattle.std.specs.Result.{result_err}
-use Rattle.refusals.specs.declared.refusal.Refusal.{Refusal}
-use Rattle.refusals.specs.Numbers.{refusal_in}
 use Rattle.layout.specs.declared.drawing.Drawing.{Drawing}
 use Rattle.sheets.specs.Sheets.{sheets_of}
 use Rattle.acts.specs.Situations.{Situation}
 use Rattle.acts.specs.Acts.{performed}
 use Rattle.station.specs.declared.journal.Entry.{Entry}
 use Rattle.station.specs.Runs.{acts_in, answered_in, answered}
-
--- the error of a result is the refusal in it
-pub err_is : {X : Type 0} (r : Result X Refusal) → result_err r ≡ refusal_in r
-err_is (Ok x) = refl
-err_is (Err r) = refl
 
 -- what is left of a run
 abbrev pub ends : Drawing → Situation → List Entry → Situation

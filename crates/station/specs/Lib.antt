@@ -1,3 +1,4 @@
 pub mod Performing
 pub mod Protection
 pub mod Runs
+pub mod Texts

@@ -7,7 +7,7 @@ use refusals::refusal::Refusal;
 use std::fmt;
 
 /// An act, and what it was answered.
-#[derive(Clone, Copy)]
+#[derive(Clone, Copy, PartialEq, Eq)]
 pub struct Entry {
     pub act: Act,
     /// Why the act was refused; none where it was accepted.
@@ -24,6 +24,11 @@ impl From<Act> for Entry {
 }
 
 impl fmt::Display for Entry {
+    ghost use Rattle.std.specs.Prelude.{Some};
+    ghost use Rattle.station.specs.Texts.{entry_text};
+
+    ghost output = { λ entry. Some (entry_text entry) };
+
     fn fmt<W: fmt::Write>(&self, f: &mut fmt::Formatter<W>) -> fmt::Result {
         let act = self.act;
         match self.refusal {

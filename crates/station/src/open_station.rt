@@ -58,13 +58,6 @@ impl<F: Field> OpenStation<F> {
         &self.yard.field
     }
 
-    /// Performs an act, or says why not.
-    pub(crate) fn carry_out(&mut self, act: Act) -> Result<(), Refusal>
-        ensures { Performs F.meaning self.old self.new act result }
-    {
-        perform(self.plan.sheets(), &mut self.yard, act)
-    }
-
     /// Performs an act, or says why not. A refused act changes nothing, after an accepted one all is settled, and no want of protection refuses a set.
     pub fn perform(&mut self, act: Act) -> Result<(), Refusal>
         ensures performed { Performs F.meaning self.old self.new act result }
@@ -75,35 +68,35 @@ impl<F: Field> OpenStation<F> {
         ensures settled { SettledAfter self.old.plan.drawing }
         ensures orderless { SettlingIsExact }
     {
-        self.carry_out(act)
+        perform(self.plan.sheets(), &mut self.yard, act)
     }
 
     /// Sets a route.
     pub fn set(&mut self, route: u8) -> Result<(), Refusal>
         ensures { Performs F.meaning self.old self.new (Set route) result }
     {
-        self.carry_out(Act::Set { route })
+        self.perform(Act::Set { route })
     }
 
     /// Clears a route: dropped, it waits again.
     pub fn clear(&mut self, route: u8) -> Result<(), Refusal>
         ensures { Performs F.meaning self.old self.new (Clear route) result }
     {
-        self.carry_out(Act::Clear { route })
+        self.perform(Act::Clear { route })
     }
 
     /// Releases a route.
     pub fn release(&mut self, route: u8) -> Result<(), Refusal>
         ensures { Performs F.meaning self.old self.new (Release route) result }
     {
-        self.carry_out(Act::Release { route })
+        self.perform(Act::Release { route })
     }
 
     /// Takes an event: the field is told.
     pub fn take(&mut self, event: Event) -> Result<(), Refusal>
         ensures { Performs F.meaning self.old self.new (Tell event) result }
     {
-        self.carry_out(Act::Tell { event })
+        self.perform(Act::Tell { event })
     }
 
     /// The state of a route.
@@ -128,12 +121,12 @@ impl<F: Field> OpenStation<F> {
         shields: &mut [Shield],
         branches: &mut [Branch],
     ) -> Result<(usize, usize), Refusal>
-        ensures answer { result ≡ protection_answer self.now.plan.drawing self.now.yard.interlocking route shields.old branches.old }
+        ensures answer { result ≡ protection_answer self.now.plan.drawing route shields.old branches.old }
         ensures shields { shields.new ≡ protection_shields self.now.plan.drawing self.now.yard.interlocking route shields.old branches.old }
-        ensures branches { branches.new ≡ protection_branches self.now.plan.drawing self.now.yard.interlocking route shields.old branches.old }
+        ensures branches { branches.new ≡ protection_branches self.now.plan.drawing route shields.old branches.old }
     {
         protection_on(
-            self.plan.drawing(),
+            &self.plan,
             &self.yard.interlocking,
             route,
             shields,

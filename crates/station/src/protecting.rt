@@ -5,26 +5,26 @@ ghost use Rattle.station.specs.Protection.{protection_answer, protection_shields
 
 use flank::answers::Branch;
 use holds::interlocking::Interlocking;
-use layout::drawing::Drawing;
+use plan::plan::Plan;
 use protection::protection::protection;
 use protection::shield::Shield;
 use refusals::refusal::Refusal;
 
 /// Fills two lists with the requests and the open branches of a route, and answers the two numbers.
 pub(crate) fn protection_on(
-    drawing: &Drawing,
+    plan: &Plan,
     interlocking: &Interlocking,
     route: u8,
     shields: &mut [Shield],
     branches: &mut [Branch],
 ) -> Result<(usize, usize), Refusal>
-    ensures answer { result ≡ protection_answer drawing.now interlocking.now route shields.old branches.old }
-    ensures shields { shields.new ≡ protection_shields drawing.now interlocking.now route shields.old branches.old }
-    ensures branches { branches.new ≡ protection_branches drawing.now interlocking.now route shields.old branches.old }
+    ensures answer { result ≡ protection_answer plan.now.drawing route shields.old branches.old }
+    ensures shields { shields.new ≡ protection_shields plan.now.drawing interlocking.now route shields.old branches.old }
+    ensures branches { branches.new ≡ protection_branches plan.now.drawing route shields.old branches.old }
 {
-    let elements = drawing.elements.as_slice();
-    let routes = drawing.routes.as_slice();
-    let place = usize::from(route);
-    let drawn = routes.get(place).ok_or(Refusal::NoSuchRoute)?;
-    protection(elements, drawn, interlocking, place, shields, branches).ok_or(Refusal::ListTooShort)
+    let elements = plan.drawing().elements.as_slice();
+    let drawn = plan.route(route)?;
+    let number = usize::from(route);
+    let counts = protection(elements, drawn, interlocking, number, shields, branches);
+    counts.ok_or(Refusal::ListTooShort)
 }

@@ -22,7 +22,7 @@ pub fn perform_all<F: Field>(plan: Plan, field: F, journal: &mut [Entry]) -> Ope
 {
     let mut station = ClosedStation { plan, field }.open();
     for entry in journal.iter_mut() {
-        entry.refusal = station.carry_out(entry.act).err();
+        entry.refusal = station.perform(entry.act).err();
     }
     station
 }

@@ -2,18 +2,29 @@
 
 use equipment::equipment::Equipment;
 use flank::answers::Branch;
-use layout::position::Position;
 use protection::shield::Shield;
-use spoken::looking::{MOST_BRANCHES, MOST_REQUESTS, print_lines};
+use refusals::refusal::Refusal;
+use spoken::looking::{MOST_BRANCHES, MOST_REQUESTS};
 use station::open_station::OpenStation;
-use std::io;
+use std::{fmt, io};
+use viewing::listing::print_listed;
+
+/// Prints what was answered of the number, or why nothing was.
+fn print_answer<T: fmt::Display + Drop>(
+    rt: &HostRuntime,
+    name: &str,
+    number: u8,
+    answer: Result<T, Refusal>,
+) -> io::Result<()> {
+    match answer {
+        Ok(answer) => println!(rt; "{name} {number}: {answer}"),
+        Err(refusal) => println!(rt; "{name} {number}: {refusal}"),
+    }
+}
 
 /// Prints the state of a route.
 pub fn show_state(rt: &HostRuntime, station: &OpenStation<Equipment>, route: u8) -> io::Result<()> {
-    match station.state(route) {
-        Ok(state) => println!(rt; "state {route}: {state}"),
-        Err(refusal) => println!(rt; "state {route}: {refusal}"),
-    }
+    print_answer(rt, "state", route, station.state(route))
 }
 
 /// Prints the aspect of a signal.
@@ -22,13 +33,8 @@ pub fn show_aspect(
     station: &OpenStation<Equipment>,
     signal: u8,
 ) -> io::Result<()> {
-    match station.aspect(signal) {
-        Ok(aspect) => {
-            let number = aspect.number();
-            println!(rt; "aspect {signal}: {number}")
-        }
-        Err(refusal) => println!(rt; "aspect {signal}: {refusal}"),
-    }
+    let number = station.aspect(signal).map(|aspect| aspect.number());
+    print_answer(rt, "aspect", signal, number)
 }
 
 /// Prints the states of all routes and the aspects of all signals of the plan.
@@ -53,23 +59,10 @@ fn print_protection(
     requests: usize,
     branches: usize,
 ) -> anyhow::Result<()> {
-    let blank = Shield {
-        element: 0,
-        position: Position::Plus,
-        held: false,
-    };
-    let mut shields = vec![in rt.alloc(); blank; requests]?;
-    let mut branches = vec![in rt.alloc(); Branch { from: 0, last: 0 }; branches]?;
-    match station.protection(route, shields.as_mut_slice(), branches.as_mut_slice()) {
-        Ok((request_count, branch_count)) => {
-            println!(rt; "{request_count} requests, {branch_count} open branches")?;
-            shields.truncate(request_count);
-            branches.truncate(branch_count);
-            print_lines(rt, shields.as_slice())?;
-            print_lines(rt, branches.as_slice())?;
-        }
-        Err(refusal) => println!(rt; "{refusal}")?,
-    }
+    let mut shields = vec![in rt.alloc(); Shield::default(); requests]?;
+    let mut branches = vec![in rt.alloc(); Branch::default(); branches]?;
+    let counts = station.protection(route, shields.as_mut_slice(), branches.as_mut_slice());
+    print_listed(rt, counts, shields.as_slice(), branches.as_slice())?;
     Ok(())
 }
 

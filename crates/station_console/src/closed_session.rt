@@ -5,6 +5,7 @@ use equipment::equipment::Equipment;
 use plan::plan::Plan;
 use spoken::asked::Asked;
 use spoken::looking::see;
+use spoken::mistake::print_error;
 use spoken::preparing::{read_plan, work_on};
 use station::closed::ClosedStation;
 
@@ -52,9 +53,9 @@ impl ClosedSession {
                 look,
             )?,
             Command::Open => println!(rt; "station: open")?,
-            Command::Perform(_) | Command::Ask(_) | Command::Close => println!(rt;
-                "error: the station is closed"
-            )?,
+            Command::Perform(_) | Command::Ask(_) | Command::Close => {
+                print_error(rt, "the station is closed")?
+            }
         }
         Ok(())
     }

@@ -8,6 +8,7 @@ use acts::act::Act;
 use equipment::equipment::Equipment;
 use spoken::asked::{Asked, Look};
 use spoken::looking::see;
+use spoken::mistake::print_error;
 use station::closed::ClosedStation;
 use station::journal::Entry;
 use station::open_station::OpenStation;
@@ -86,9 +87,9 @@ impl OpenSession {
             Command::Ask(question) => self.answer(rt, question)?,
             Command::Usual(Asked::See(look)) => self.see(rt, look)?,
             Command::Close => println!(rt; "station: closed")?,
-            Command::Usual(Asked::Plan(_) | Asked::Field(_)) | Command::Open => println!(rt;
-                "error: the station is open"
-            )?,
+            Command::Usual(Asked::Plan(_) | Asked::Field(_)) | Command::Open => {
+                print_error(rt, "the station is open")?
+            }
         }
         Ok(())
     }

@@ -3,16 +3,11 @@
 use crate::closed_session::ClosedSession;
 use crate::command::Command;
 use crate::open_session::OpenSession;
-use spoken::mistake::Mistake;
+use spoken::mistake::{Mistake, print_error};
 
 pub enum Session {
     Closed(ClosedSession),
     Open(OpenSession),
-}
-
-fn print_mistake(rt: &HostRuntime, mistake: Mistake) -> anyhow::Result<()> {
-    println!(rt; "error: {mistake}")?;
-    Ok(())
 }
 
 impl Session {
@@ -41,7 +36,7 @@ impl Session {
 
     /// Says why a line is no command, and goes on.
     pub fn correct(self, rt: &HostRuntime, mistake: Mistake) -> anyhow::Result<Session> {
-        self.after(print_mistake(rt, mistake))
+        self.after(print_error(rt, mistake).map_err(|error| error.into()))
     }
 
     /// Does what a command asks for, prints what it did, and goes on.

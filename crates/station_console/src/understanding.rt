@@ -1,5 +1,14 @@
 //! The words of a line.
 
+ghost use Rattle.std.specs.Prelude.{◌≡◌};
+ghost use Rattle.std.specs.Result.{result_map_both};
+ghost use Rattle.acts.specs.declared.act.Act.{Act};
+ghost use Rattle.acts.specs.declared.act.Act.TheVariants.{Tell};
+ghost use Rattle.acts.specs.declared.act.Event.{Event};
+ghost use Rattle.spoken.specs.Words.{number_in, two_numbers_in};
+ghost use Rattle.spoken.specs.declared.mistake.Mistake.TheVariants.{WantsOneNumber, WantsTwoNumbers};
+ghost use Rattle.station_console.specs.Commands.{Performing, Bids, bidding_of, bidding_in, alone_in, protection_in};
+
 use crate::command::{Command, Question};
 use acts::act::{Act, Event};
 use spoken::mistake::Mistake;
@@ -7,7 +16,9 @@ use spoken::understanding::{asked, one_wanted, two_wanted, wants_nothing};
 use spoken::words::{first_word, number, two_numbers};
 
 /// What a command asks for.
-pub fn understood<'a>(name: &str, rest: &'a str) -> Result<Command<'a>, Mistake> {
+pub fn understood<'a>(name: &str, rest: &'a str) -> Result<Command<'a>, Mistake>
+    ensures { result_map_both bidding_of (λ mistake. mistake) result ≡ bidding_in name.now rest.now }
+{
     match name {
         "open" => alone(rest, Command::Open),
         "close" => alone(rest, Command::Close),
@@ -27,7 +38,9 @@ pub fn understood<'a>(name: &str, rest: &'a str) -> Result<Command<'a>, Mistake>
 }
 
 /// A command that is one word.
-fn alone<'a>(rest: &str, command: Command<'a>) -> Result<Command<'a>, Mistake> {
+fn alone<'a>(rest: &str, command: Command<'a>) -> Result<Command<'a>, Mistake>
+    ensures { result_map_both bidding_of (λ mistake. mistake) result ≡ alone_in (bidding_of command.entry) rest.now }
+{
     wants_nothing(rest)?;
     Ok(command)
 }
@@ -35,6 +48,7 @@ fn alone<'a>(rest: &str, command: Command<'a>) -> Result<Command<'a>, Mistake> {
 /// An act on the route of a number.
 fn on_route<'a, F: FnOnce(u8) -> Act>(rest: &str, act: F) -> Result<Command<'a>, Mistake>
     requires { F.IsAlwaysCallable act }
+    ensures { Bids (number_in rest.now) WantsOneNumber (λ route bidding. (chosen : Act) × F.post act route chosen × (bidding ≡ Performing chosen)) result }
 {
     let route = one_wanted(rest)?;
     Ok(Command::Perform(act(route)))
@@ -43,6 +57,7 @@ fn on_route<'a, F: FnOnce(u8) -> Act>(rest: &str, act: F) -> Result<Command<'a>,
 /// What is told of the element or section of a number, with a value.
 fn told<'a, F: FnOnce(u8, u8) -> Event>(rest: &str, event: F) -> Result<Command<'a>, Mistake>
     requires { F.IsAlwaysCallable event }
+    ensures { Bids (two_numbers_in rest.now) WantsTwoNumbers (λ numbers bidding. (told : Event) × F.post event numbers.0 numbers.1 told × (bidding ≡ Performing (Tell told))) result }
 {
     let (number, value) = two_wanted(rest)?;
     let event = event(number, value);
@@ -50,7 +65,9 @@ fn told<'a, F: FnOnce(u8, u8) -> Event>(rest: &str, event: F) -> Result<Command<
 }
 
 /// The protection of a route, with or without the lengths of two lists.
-fn protection(rest: &str) -> Option<Question> {
+fn protection(rest: &str) -> Option<Question>
+    ensures { result ≡ protection_in rest.now }
+{
     let (first, lengths) = first_word(rest);
     let route = number(first)?;
     if lengths.is_empty() {

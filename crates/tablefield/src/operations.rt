@@ -1,7 +1,7 @@
 //! A fresh table, and how a table answers, takes orders and is told.
 
 ghost use Rattle.std.specs.Prelude.{◌≡◌};
-ghost use Rattle.field.specs.Meaning.{device_of, fresh_meaning};
+ghost use Rattle.field.specs.Meaning.{device_of, with_device, fresh_meaning};
 ghost use Rattle.tablefield.specs.Table.{table_meaning};
 
 use crate::table::TableField;
@@ -40,6 +40,17 @@ impl TableField {
             .copied()
             .unwrap_or(unknown_device())
     }
+
+    /// Changes the device of an element, if there is one.
+    fn change<F: FnOnce(Device) -> Device>(&mut self, element: u8, change: F)
+        requires { F.IsAlwaysCallable change }
+        ensures { (device : _) × F.post change (device_of (table_meaning self.old) element) device × (table_meaning self.new ≡ with_device (table_meaning self.old) element device) }
+    {
+        let device = change(self.device(element));
+        if element < 96 {
+            self.devices[element as usize] = device;
+        }
+    }
 }
 
 impl Field for TableField {
@@ -68,29 +79,26 @@ impl Field for TableField {
     }
 
     fn order(&mut self, element: u8, position: Position) {
-        if element < 96 {
-            let device = &mut self.devices[element as usize];
-            device.report = report_after_order(device.report, position);
-            device.order = Some(position);
-        }
+        self.change(
+            element,
+            |device| Device {
+                report: report_after_order(device.report, position),
+                order: Some(position),
+                ..device
+            },
+        );
     }
 
     fn tell_report(&mut self, element: u8, report: Option<Position>) {
-        if element < 96 {
-            self.devices[element as usize].report = report;
-        }
+        self.change(element, |device| Device { report, ..device });
     }
 
     fn tell_block(&mut self, element: u8, blocked: bool) {
-        if element < 96 {
-            self.devices[element as usize].blocked = blocked;
-        }
+        self.change(element, |device| Device { blocked, ..device });
     }
 
     fn tell_lamp(&mut self, element: u8, burning: bool) {
-        if element < 96 {
-            self.devices[element as usize].burning = burning;
-        }
+        self.change(element, |device| Device { burning, ..device });
     }
 
     fn tell_occupation(&mut self, section: u8, occupied: bool) {

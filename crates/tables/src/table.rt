@@ -10,6 +10,7 @@ pub fn at_or<T: Copy>(table: &[T], place: usize, blank: T) -> T
 }
 
 /// Writes an item at a place, if the table has that place.
+#[tactic(auto, using(crate::proofs::set_past))]
 pub fn put<T: Copy>(table: &mut [T], place: usize, item: T)
     ensures { table.new ≡ slice_set table.old place item }
 {

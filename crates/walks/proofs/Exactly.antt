@@ -25,7 +25,7 @@ module _ (es : List Element) (r : Route) (elements : SoundElements es) (few : le
   overlap_within = go route.overlap
     where
       go : (overlap_of r ≡ []) ⊎ SoundOverlap es (path_of r) (overlap_of r) → Within es (overlap_of r)
-      go (inl i) k h = absurd (let none : ⊥ = omega (arith, ap length i) in none)
+      go (inl i) k h = absurd (omega (arith, ap length i))
       go (inr s) k h = s.within k h
 
   ground : Ground es r (used_table es r)

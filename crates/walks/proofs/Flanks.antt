@@ -1,9 +1,9 @@
 -- The flanks that the search leaves are the flanks of the route.
 use Rattle.std.proofs.Common.{◌≡◌, ℕ, zero, suc, ◌-◌, ◌<◌, Bool, true, false, ◌⊎◌, List, [], ◌∷◌, length, Some, None, Option, sym, refl, ap, ◌∙◌, subst, inl, inr, ⊎_elim, arith}
+use Rattle.std.proofs.lemmas.Option.{none-some}
 use Rattle.std.specs.Option.{option_or}
 use Rattle.bounded.specs.declared.bounded.Bounded.{Bounded}
 use Rattle.layout.specs.declared.element.Element.{Element}
-use Rattle.layout.specs.declared.kind.Kind.{Kind}
 use Rattle.layout.specs.declared.kind.Kind.TheVariants as kind
 use Rattle.layout.specs.declared.position.Position.{Position}
 use Rattle.layout.specs.declared.route.Route.{Route}
@@ -14,10 +14,10 @@ use Rattle.layout.specs.Ports.{at}
 use Rattle.layout.specs.Ways.{place}
 use Rattle.layout.specs.Uses.{numbers, path_of, overlap_of, FlankOf, path_reach, Flank, in_path, in_overlap}
 use Rattle.layout.specs.Sound.{SoundElements}
+use Rattle.layout.proofs.KindTests.{point_test}
 use Rattle.paths.specs.Sound.{Within, Once, last, SoundPath, SoundOverlap, HasSoundPath, AllowedOverlap, no_overlap, zero_overlap, some_overlap}
 use Rattle.flank.specs.declared.flanks.Flank.{Flank as Leg}
-use Rattle.flank.specs.Flanks.{flank_in, path_spare, path_flank, overlap_flank, flank_over, flank_of}
-use Rattle.walks.proofs.Net.{some_apart}
+use Rattle.flank.specs.Flanks.{flank_in, path_spare, with_spare, flank_over, flank_of}
 use Rattle.walks.proofs.Legs.{found_in, leg_flank, flank_leg}
 
 -- a route with a sound path, and with a sound overlap or none
@@ -42,19 +42,12 @@ sound_route es r h a = record { path = subst (SoundPath es r.class) (sym (read_p
         (subst (λ (p : List ℕ). SoundOverlap es p (overlap_of r)) (sym (read_path path i))
         (subst (λ (o : List ℕ). SoundOverlap es (numbers (Some path)) o) (sym (read_overlap (Some overlap) j)) s))
 
-point_kind : (k : Kind) → is_point k ≡ true → k ≡ kind.Point
-point_kind kind.Track e = cc
-point_kind kind.Point e = refl
-point_kind kind.Derailer e = cc
-point_kind kind.Signal e = cc
-point_kind kind.PlanEnd e = cc
-
 -- the flank found is the one in the path, or where that has none the one in the overlap
-either_way : (c : RouteClass) (a b : Option Position) (f : Leg) → option_or (path_flank a c) (overlap_flank b) ≡ Some f
+either_way : (c : RouteClass) (a b : Option Position) (f : Leg) → option_or (with_spare a (path_spare c)) (with_spare b 0) ≡ Some f
     → ((a ≡ Some f.leg) × (f.spare ≡ path_spare c)) ⊎ ((b ≡ Some f.leg) × (f.spare ≡ 0))
 either_way c (Some p) b f h = inl ((cc), (cc))
 either_way c None (Some p) f h = inr ((cc), (cc))
-either_way c None None f h = absurd (some_apart f h)
+either_way c None None f h = cc
 
 -- the overlap beyond the last signal of the path
 module _ (es : List Element) (path overlap : List ℕ) (within : Within es path) (sound : SoundOverlap es path overlap) where
@@ -76,33 +69,33 @@ module _ (es : List Element) (elements : SoundElements es) (c : RouteClass) (ove
   over_flank : (path : List ℕ) → SoundPath es c path → (overlap ≡ []) ⊎ SoundOverlap es path overlap → (f : Leg)
       → flank_over es c path overlap e ≡ Some f → Either es c path overlap e f
   unfolding flank_over flank_in
-  over_flank [] s o f h = absurd (some_apart f h)
+  over_flank [] s o f h = cc
   over_flank (x ∷ xs) s o f h = go (is_point (at es e).kind) refl
     where
       beyond : (at es e).kind ≡ kind.Point → (overlap ≡ []) ⊎ SoundOverlap es (x ∷ xs) overlap → flank_in es (place (x ∷ xs) (last (x ∷ xs))) overlap e ≡ Some f.leg
           → FlankOf es (place (x ∷ xs) (last (x ∷ xs)) ∷ overlap) e f.leg
-      beyond k (inl i) j = absurd (some_apart f.leg (sym (ap (λ (w : List ℕ). flank_in es (place (x ∷ xs) (last (x ∷ xs))) w e) i) ∙ j))
+      beyond k (inl i) j = absurd (none-some f.leg (sym (ap (λ (w : List ℕ). flank_in es (place (x ∷ xs) (last (x ∷ xs))) w e) i) ∙ j))
       beyond k (inr t) j =
           leg_flank es elements (place (x ∷ xs) (last (x ∷ xs))) overlap (beyond_within es (x ∷ xs) overlap s.within t) (beyond_once es (x ∷ xs) overlap s.within t) t.runs e f.leg k j
 
       go : (b : Bool) → is_point (at es e).kind ≡ b → Either es c (x ∷ xs) overlap e f
       go true i =
-          let k = point_kind _ i in
+          let k = point_test _ i in
           ⊎_elim (λ a. inl (leg_flank es elements x xs s.within s.once s.runs e f.leg k a.0, a.1)) (λ a. inr (beyond k o a.0, a.1))
           (either_way c _ _ f (rw (i, flank_over) at h))
-      go false i = absurd (some_apart f (rw (i, flank_over) at h))
+      go false i = absurd (none-some f (rw (i, flank_over) at h))
 
   flank_path : (path : List ℕ) → SoundPath es c path → (p : Position) → FlankOf es path e p
       → flank_over es c path overlap e ≡ Some (record { leg = p; spare = path_spare c })
   unfolding flank_over
-  flank_path [] s p f = absurd (let none : ⊥ = omega (arith, f.between.within) in none)
+  flank_path [] s p f = absurd (omega (arith, f.between.within))
   flank_path (x ∷ xs) s p f = rw (ap is_point f.point, flank_over) (rw (flank_leg es elements x xs s.within s.once s.runs e p f))
 
   flank_overlap : (path : List ℕ) → SoundPath es c path → (overlap ≡ []) ⊎ SoundOverlap es path overlap → (p : Position)
       → FlankOf es (place path (length path - 1) ∷ overlap) e p → flank_over es c path overlap e ≡ Some (record { leg = p; spare = 0 })
   unfolding flank_over
-  flank_overlap path s (inl i) p f = absurd (let none : ⊥ = omega (arith, f.between.within, ap length i) in none)
-  flank_overlap [] s (inr t) p f = absurd (let none : ⊥ = omega (arith, t.some_path) in none)
+  flank_overlap path s (inl i) p f = absurd (omega (arith, f.between.within, ap length i))
+  flank_overlap [] s (inr t) p f = absurd (omega (arith, t.some_path))
   flank_overlap (x ∷ xs) s (inr t) p f =
       rw (ap is_point f.point, flank_over)
       (rw (
@@ -156,5 +149,5 @@ module _ (es : List Element) (r : Route) (elements : SoundElements es) (route : 
   flank_inside (in_overlap f) = (go route.overlap, f.point)
     where
       go : (overlap_of r ≡ []) ⊎ SoundOverlap es (path_of r) (overlap_of r) → u < length es
-      go (inl i) = absurd (let none : ⊥ = omega (arith, f.between.within, ap length i) in none)
+      go (inl i) = absurd (omega (arith, f.between.within, ap length i))
       go (inr t) = subst (λ n. n < length es) f.between.is (t.within f.at_place (omega (arith, f.between.within)))

@@ -11,6 +11,7 @@ use Rattle.layout.specs.Kinds.{is_signal}
 use Rattle.layout.specs.Ports.{at, joined}
 use Rattle.layout.specs.Ways.{port}
 use Rattle.layout.specs.Uses.{Uses, leg}
+use Rattle.layout.proofs.KindTests.{signal_test}
 use Rattle.flank.specs.declared.meeting.Meeting.{Meeting}
 use Rattle.flank.specs.declared.meeting.Meeting.TheVariants.{Ends, Shields, AtToe, AtLeg}
 use Rattle.flank.specs.Signals.{far_end, across, onward, is_able_signal, passes, along, signal_ports}
@@ -22,7 +23,7 @@ use Rattle.walks.specs.Walks.{Is, LeadsPast, Able, Counts, Walk, leaves, passes_
 use Rattle.walks.specs.Exactly.{In}
 use Rattle.walks.proofs.Net.{Port, far_is, linked}
 use Rattle.walks.proofs.Chain.{Chain, starts, goes, across_port, along_step, chain_port}
-use Rattle.walks.proofs.Told.{Ground, Told, told, signal_kind, able_place, able_signal, signal_able}
+use Rattle.walks.proofs.Told.{Ground, Told, told, able_place, able_signal, signal_able}
 
 pub in_left : {A : Type 0} (a : A) (xs ys : List A) → In a xs → In a (xs ++ ys)
 in_left a [] ys h = absurd h
@@ -52,7 +53,7 @@ module _ (es : List Element) (r : Route) (used : List Bool) (ground : Ground es 
   able_rests q a = go _ refl
     where
       go : (b : Bool) → passes false es q ≡ b → passes false es q ≡ false
-      go true e = let t = and_parts _ _ e in absurd (both_ways _ (not-true _ t.1) (able_signal es r used ground q (signal_kind _ t.0) a))
+      go true e = let t = and_parts _ _ e in absurd (both_ways _ (not-true _ t.1) (able_signal es r used ground q (signal_test _ t.0) a))
       go false e = e
 
   counts_rests : (q : Join) → Counts es r q → passes false es q ≡ false
@@ -192,7 +193,7 @@ module _ (es : List Element) (r : Route) (used : List Bool) (ground : Ground es 
             → (b : Bool) → passes false es q ≡ b → Walk es r u side (suc spare) n (along false es (suc k) q)
         go ih true e =
             let t = and_parts _ _ e in
-            let s = signal_kind _ t.0 in
+            let s = signal_test _ t.0 in
             let leads : LeadsPast es q (onward es q) = linked es ground.sound (across q) (across_port false es ground.sound ground.few q (walk_port w) e) in
             rw (e, along) (ih (passes_signal w s (λ a. both_ways _ (not-true _ t.1) (able_signal es r used ground q s a)) leads))
         go ih false e = rw (e, along) w

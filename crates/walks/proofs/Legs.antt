@@ -12,10 +12,10 @@ use Rattle.layout.specs.Uses.{Between, PassesBy, leg, FlankOf}
 use Rattle.layout.specs.Sound.{SoundElements}
 use Rattle.paths.specs.Sound.{Within, Once}
 use Rattle.flank.specs.Flanks.{leads_to, free_leg, flank_in}
-use Rattle.walks.proofs.Net.{join_low, some_apart}
+use Rattle.walks.proofs.Net.{join_low}
 
 test_leads : (o : Option Join) (a : ℕ) → leads_to o a ≡ true → (q : ℕ) × (o ≡ Some (port a q))
-test_leads None a e = absurd (both_ways _ refl e)
+test_leads None a e = cc
 test_leads (Some far) a e = let s = eqb-true far.element a e in (far.port, λ i. Some (record { element = s i; port = far.port }))
 
 leads_test : (o : Option Join) (a q : ℕ) → o ≡ Some (port a q) → leads_to o a ≡ true
@@ -107,8 +107,8 @@ Found es way e p = (k : ℕ) × Between way e k × (p ≡ free_leg es (place way
 module _ (es : List Element) (e : ℕ) where
   pub found_in : (rest : List ℕ) (before : ℕ) (p : Position) → flank_in es before rest e ≡ Some p → Found es (before ∷ rest) e p
   unfolding flank_in
-  found_in [] before p h = absurd (some_apart p h)
-  found_in (x ∷ []) before p h = absurd (some_apart p h)
+  found_in [] before p h = cc
+  found_in (x ∷ []) before p h = cc
   found_in (x ∷ y ∷ ys) before p h = go (found_in (y ∷ ys) x p) (eqb x e) refl
     where
       go : (flank_in es x (y ∷ ys) e ≡ Some p → Found es (x ∷ y ∷ ys) e p) → (b : Bool) → eqb x e ≡ b → Found es (before ∷ x ∷ y ∷ ys) e p
@@ -121,8 +121,8 @@ module _ (es : List Element) (e : ℕ) where
 
   in_found : (rest : List ℕ) (before k : ℕ) → Between (before ∷ rest) e k → (p : Position) × (flank_in es before rest e ≡ Some p)
   unfolding flank_in
-  in_found [] before k b = absurd (let none : ⊥ = omega (arith, b.within) in none)
-  in_found (x ∷ []) before k b = absurd (let none : ⊥ = omega (arith, b.within) in none)
+  in_found [] before k b = absurd (omega (arith, b.within))
+  in_found (x ∷ []) before k b = absurd (omega (arith, b.within))
   in_found (x ∷ y ∷ ys) before k b = go (in_found (y ∷ ys) x) (eqb x e) refl k b
     where
       go : ((k : ℕ) → Between (x ∷ y ∷ ys) e k → (p : Position) × (flank_in es x (y ∷ ys) e ≡ Some p)) → (b : Bool) → eqb x e ≡ b

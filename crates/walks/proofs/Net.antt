@@ -1,23 +1,21 @@
 -- On sound elements every port is joined, to a port that is joined back to it.
-use Rattle.std.proofs.Common.{◌≡◌, ℕ, ◌<◌, List, length, Some, None, Option, sym, ap, ◌∙◌, inl, inr, arith}
+use Rattle.std.proofs.Common.{◌≡◌, ℕ, ◌<◌, List, length, Some, Option, sym, ap, ◌∙◌, inl, inr}
 use Rattle.std.proofs.lemmas.Bool.{cases_lt}
+use Rattle.std.specs.Option.{unwrap_or}
 use Rattle.layout.specs.declared.element.Element.{Element}
 use Rattle.layout.specs.declared.element.Join.{Join}
 use Rattle.layout.specs.Kinds.{ports}
 use Rattle.layout.specs.Ports.{at, joined}
 use Rattle.layout.specs.Ways.{port}
 use Rattle.layout.specs.Sound.{SoundElements}
-use Rattle.flank.specs.Signals.{or_itself, far_end}
+use Rattle.flank.specs.Signals.{far_end}
 
 -- a port that an element of the drawing has
 abbrev pub Port : List Element → Join → Type 0
 Port es q = (q.element < length es) × (q.port < ports (at es q.element).kind)
 
 pub far_is : (es : List Element) (e p : ℕ) (j : Join) → joined es e p ≡ Some j → far_end es (port e p) ≡ j
-far_is es e p j h = ap (λ (o : Option Join). or_itself o (port e p)) h
-
-pub some_apart : {A : Type 0} (x : A) → ◌≡◌ {A = Option A} None (Some x) → ⊥
-some_apart x e = let z : ◌≡◌ {A = ℕ} 0 1 = cc in omega arith
+far_is es e p j h = ap (λ (o : Option Join). unwrap_or o (port e p)) h
 
 module _ (es : List Element) (sound : SoundElements es) where
   -- a join is at a port that the element has
@@ -25,7 +23,7 @@ module _ (es : List Element) (sound : SoundElements es) where
   join_low e p j h i =
       elim (cases_lt p (ports (at es e).kind)) [
         | inl l ↦ l
-        | inr l ↦ absurd (some_apart j (sym ((sound.fields e h).no_other p l) ∙ i))
+        | inr l ↦ let none = (sound.fields e h).no_other p l in cc
       ]
 
   pub linked : (q : Join) → Port es q → joined es q.element q.port ≡ Some (far_end es q)

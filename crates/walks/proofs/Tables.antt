@@ -18,6 +18,7 @@ use Rattle.flank.specs.Used.{used_table}
 use Rattle.flank.specs.Search.{Finding, shield, open_end, walk, unmarked, asked, opened, mark, marks}
 use Rattle.flank.specs.Flanks.{flank_of}
 use Rattle.flank.specs.Protection.{flank_marks, no_marks, marks_below, request, branch, requests_at, requests_in, branch_at, branches_in, marks_of, branches_below}
+use Rattle.flank.proofs.Turns.{no_marks_length}
 use Rattle.walks.specs.Exactly.{In}
 use Rattle.walks.proofs.Found.{in_left, in_right, in_either}
 
@@ -129,10 +130,6 @@ module _ (g : Finding) where
   has_in (f ∷ fs) t l (inl i) = has_before fs (mark f t) (rw (mark_length f t) l) (rw i (has_now g t l))
   has_in (f ∷ fs) t l (inr i) = has_in fs (mark f t) (rw (mark_length f t) l) i
 
-no_marks_length : length no_marks ≡ 96
-unfolding no_marks
-no_marks_length = refl
-
 none_marked : (g : Finding) → number_of g < 96 → Has no_marks g → ⊥
 unfolding no_marks
 none_marked g l h = both_ways _ (ap (flag g) (get_or-replicate 96 (number_of g) unmarked unmarked l) ∙ flag_unmarked g) h
@@ -180,7 +177,7 @@ module _ (es : List Element) (r : Route) where
 
   pub has_below : (g : Finding) → number_of g < 96 → (n u : ℕ) → u < n → Finds g u → Has (marks_below es r n) g
   unfolding marks_below
-  has_below g l zero u k f = absurd (let none : ⊥ = omega arith in none)
+  has_below g l zero u k f = absurd (omega arith)
   has_below g l (suc n) u k f =
       ⊎_elim (λ i. flank_finds g n (marks_below es r n) (rw (below_length n) l) (subst (Finds g) (sym i) f))
       (λ d. flank_keeps g n (flank_of es r n) (marks_below es r n) (rw (below_length n) l) (has_below g l n u (omega arith) f)) (cases_eq n u)
@@ -229,7 +226,7 @@ in_requests t (suc n) e p h =
 
 pub requests_have : (t : List Mark) (n e : ℕ) (p : Position) → e < n → Has t (shield e p) → In (request e p) (requests_in t n)
 unfolding requests_in
-requests_have t zero e p l h = absurd (let none : ⊥ = omega arith in none)
+requests_have t zero e p l h = absurd (omega arith)
 requests_have t (suc n) e p l h =
     ⊎_elim (λ i. in_right (request e p) (requests_in t n) _ (rw i (at_in e p (get_or t e unmarked) h)))
     (λ d. in_left (request e p) (requests_in t n) _ (requests_have t n e p (omega arith) h)) (cases_eq n e)
@@ -248,7 +245,7 @@ in_branches a t (suc n) u l h =
 
 branches_have : (t : List Mark) (n u l : ℕ) → l < n → Has t (open_end l) → In (branch u l) (branches_in u t n)
 unfolding branches_in
-branches_have t zero u l k h = absurd (let none : ⊥ = omega arith in none)
+branches_have t zero u l k h = absurd (omega arith)
 branches_have t (suc n) u l k h =
     ⊎_elim (λ i. in_right (branch u l) (branches_in u t n) _ (rw i (cond_in (get_or t l unmarked).open_end (branch u l) h)))
     (λ d. in_left (branch u l) (branches_in u t n) _ (branches_have t n u l (omega arith) h)) (cases_eq n l)
@@ -264,7 +261,7 @@ module _ (es : List Element) (r : Route) where
 
   pub below_in : (n u l : ℕ) → u < n → l < 96 → Has (marks_of es r u) (open_end l) → In (branch u l) (branches_below es r n)
   unfolding branches_below
-  below_in zero u l k m h = absurd (let none : ⊥ = omega arith in none)
+  below_in zero u l k m h = absurd (omega arith)
   below_in (suc n) u l k m h =
       ⊎_elim (λ i. in_right (branch u l) (branches_below es r n) _ (rw i (branches_have (marks_of es r u) 96 u l m h)))
       (λ d. in_left (branch u l) (branches_below es r n) _ (below_in n u l (omega arith) m h)) (cases_eq n u)

@@ -13,15 +13,17 @@ use Rattle.layout.specs.declared.position.Position.TheVariants as position
 use Rattle.layout.specs.declared.route.Route.{Route}
 use Rattle.layout.specs.Kinds.{is_signal}
 use Rattle.layout.specs.Ports.{at}
+use Rattle.layout.specs.Positions.{other}
 use Rattle.layout.specs.Ways.{port}
 use Rattle.layout.specs.Uses.{Uses, leg}
 use Rattle.layout.specs.Sound.{SoundElements}
+use Rattle.layout.proofs.KindTests.{signal_test}
 use Rattle.flank.specs.declared.meeting.Meeting.{Meeting}
 use Rattle.flank.specs.declared.meeting.Meeting.TheVariants.{Ends, Shields, AtToe, AtLeg}
 use Rattle.flank.specs.Signals.{far_end, across, onward, is_requested, is_able_signal, passes, along, signal_ports}
 use Rattle.flank.specs.Meetings.{other_leg, may_shield, beyond_toe, meets_leg, meets_kind, meets}
 use Rattle.flank.proofs.Turns.{along_rests}
-use Rattle.walks.specs.Walks.{Is, LeadsPast, Beyond, here, past, Behind, Prefers, both, plus, minus, opposite, Able, derailer, signal, point, Counts}
+use Rattle.walks.specs.Walks.{Is, LeadsPast, Beyond, here, past, Behind, Prefers, both, plus, minus, Able, derailer, signal, point, Counts}
 use Rattle.walks.proofs.Net.{Port, far_is, linked}
 use Rattle.walks.proofs.Chain.{Chain, starts, goes, across_port, along_stops, along_step, chain_port}
 
@@ -31,13 +33,6 @@ pub record Ground (es : List Element) (r : Route) (used : List Bool) : Type 0 wh
   pub few : length es ≤ 96
   pub to_table : (e : ℕ) → Uses es r e → get_or used e false ≡ true
   pub from_table : (e : ℕ) → get_or used e false ≡ true → Uses es r e
-
-pub signal_kind : (k : Kind) → is_signal k ≡ true → k ≡ kind.Signal
-signal_kind kind.Track e = cc
-signal_kind kind.Point e = cc
-signal_kind kind.Derailer e = cc
-signal_kind kind.Signal e = refl
-signal_kind kind.PlanEnd e = cc
 
 pub no_signal : (k : Kind) → (k ≡ kind.Signal → ⊥) → is_signal k ≡ false
 no_signal kind.Track n = refl
@@ -60,7 +55,7 @@ module _ (es : List Element) (sound : SoundElements es) (few : length es ≤ 96)
           → (b : Bool) → passes true es q ≡ b → Beyond es q (along true es (suc n) q)
       go ih true e =
           let leads : LeadsPast es q (onward es q) = linked es sound (across q) (across_port true es sound few q (chain_port true es sound few c) e) in
-          rw (e, along) (past (signal_kind _ (and_parts _ _ e).0) leads (ih (goes c e) (rw (e, along) at h)))
+          rw (e, along) (past (signal_test _ (and_parts _ _ e).0) leads (ih (goes c e) (rw (e, along) at h)))
       go ih false e = rw (e, along) (here (λ s. both_ways _ e (passes_all es q s)))
 
   along_beyond : {q r : Join} → Chain true es q → Beyond es q r → along true es signal_ports q ≡ r
@@ -90,10 +85,10 @@ one_kind x k l a b n = n (ap code (sym a ∙ b))
 
 prefers_may : (d : Option Dual) (p : Position) → may_shield d p ≡ true → Prefers d p
 prefers_may None p e = both
-prefers_may (Some dual.NoPreference) p e = absurd (both_ways _ refl e)
+prefers_may (Some dual.NoPreference) p e = cc
 prefers_may (Some dual.PrefersPlus) position.Plus e = plus
-prefers_may (Some dual.PrefersPlus) position.Minus e = absurd (both_ways _ refl e)
-prefers_may (Some dual.PrefersMinus) position.Plus e = absurd (both_ways _ refl e)
+prefers_may (Some dual.PrefersPlus) position.Minus e = cc
+prefers_may (Some dual.PrefersMinus) position.Plus e = cc
 prefers_may (Some dual.PrefersMinus) position.Minus e = minus
 
 may_prefer : {d : Option Dual} {p : Position} → Prefers d p → may_shield d p ≡ true
@@ -102,14 +97,14 @@ may_prefer plus = refl
 may_prefer minus = refl
 
 marked_test : (o : Option Marks) → is_requested o ≡ true → (m : Marks) × (o ≡ Some m) × (m.requested ≡ true)
-marked_test None e = absurd (both_ways _ refl e)
+marked_test None e = cc
 marked_test (Some m) e = (m, refl, e)
 
 test_marked : (o : Option Marks) → (m : Marks) × (o ≡ Some m) × (m.requested ≡ true) → is_requested o ≡ true
 test_marked o h = ap is_requested h.1 ∙ h.2
 
 -- the position of the other leg
-leg_other : (p : Position) (n : ℕ) → n ≡ leg (opposite p) → p ≡ other_leg n
+leg_other : (p : Position) (n : ℕ) → n ≡ leg (other p) → p ≡ other_leg n
 leg_other position.Plus n e = rw e
 leg_other position.Minus n e = rw e
 
@@ -117,10 +112,10 @@ leg_is : (p : Position) → 0 < leg p
 leg_is position.Plus = omega arith
 leg_is position.Minus = omega arith
 
-other_is : (n : ℕ) → n ≢ 0 → n < 3 → n ≡ leg (opposite (other_leg n))
+other_is : (n : ℕ) → n ≢ 0 → n < 3 → n ≡ leg (other (other_leg n))
 other_is n a l = go (eqb n 1) refl
   where
-    go : (t : Bool) → eqb n 1 ≡ t → n ≡ leg (opposite (other_leg n))
+    go : (t : Bool) → eqb n 1 ≡ t → n ≡ leg (other (other_leg n))
     go true e = rw e (eqb-true n 1 e)
     go false e = let d = eqb-false n 1 e in rw e (omega arith)
 
@@ -158,7 +153,7 @@ module _ (es : List Element) (r : Route) (used : List Bool) (ground : Ground es 
       ⊎ (Is kind.Point es q × (q.port ≢ 0) × (Behind es r q.element → ⊥) × Prefers (at es q.element).dual p × (p ≡ other_leg q.port)))
   able_kind q (derailer d) = inl d
   able_kind q (signal s m e) = inr (inl (s, and_from _ _ (test_marked _ m) (eq-eqb _ _ e)))
-  able_kind q (point p k e f b) = inr (inr (k, (λ z. let l = leg_is (opposite p) in omega arith), b, f, leg_other p q.port e))
+  able_kind q (point p k e f b) = inr (inr (k, (λ z. let l = leg_is (other p) in omega arith), b, f, leg_other p q.port e))
 
   -- in which position
   pub able_place : (q : Join) → {p : Position} → Able es r q p → p ≡ shields_in (at es q.element).kind q.port

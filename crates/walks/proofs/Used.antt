@@ -7,10 +7,10 @@ use Rattle.layout.specs.declared.element.Element.{Element}
 use Rattle.layout.specs.declared.route.Route.{Route}
 use Rattle.layout.specs.Kinds.{is_sectioned}
 use Rattle.layout.specs.Ports.{at}
-use Rattle.layout.specs.Ways.{place}
+use Rattle.layout.specs.Ways.{place, inner}
 use Rattle.layout.specs.Uses.{path_of, overlap_of, Uses}
 use Rattle.paths.specs.Sound.{Within}
-use Rattle.flank.specs.Used.{inner, with_one, with_used, used_table}
+use Rattle.flank.specs.Used.{with_one, with_used, used_table}
 
 module _ (es : List Element) where
   one_length : (x : ℕ) (t : List Bool) → length (with_one es x t) ≡ length t

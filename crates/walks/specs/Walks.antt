@@ -11,6 +11,7 @@ use Rattle.layout.specs.declared.position.Position.{Position}
 use Rattle.layout.specs.declared.position.Position.TheVariants as position
 use Rattle.layout.specs.declared.route.Route.{Route}
 use Rattle.layout.specs.Ports.{at, joined}
+use Rattle.layout.specs.Positions.{other}
 use Rattle.layout.specs.Uses.{Uses, leg, Flank}
 
 -- A walk meets elements at ports. What it meets at a port is of a kind.
@@ -44,17 +45,12 @@ pub data Prefers : Option Dual → Position → Type 0 where
 abbrev pub Marked : Element → Type 0
 Marked e = (m : Marks) × (e.marks ≡ Some m) × (m.requested ≡ true)
 
--- The position of a point's other leg.
-abbrev pub opposite : Position → Position
-opposite position.Plus = position.Minus
-opposite position.Minus = position.Plus
-
 -- What is met at the port q is able to shield in a position: a derailer in plus; a marked signal met at its front in plus;
 -- a point met at a leg in the position of its other leg, where it may, unless the route lies beyond its toe.
 pub data Able (es : List Element) (r : Route) (q : Join) : Position → Type 0 where
   derailer : Is kind.Derailer es q → Able es r q position.Plus
   signal : Is kind.Signal es q → Marked (at es q.element) → q.port ≡ 1 → Able es r q position.Plus
-  point : (p : Position) → Is kind.Point es q → q.port ≡ leg (opposite p) → Prefers (at es q.element).dual p
+  point : (p : Position) → Is kind.Point es q → q.port ≡ leg (other p) → Prefers (at es q.element).dual p
       → (Behind es r q.element → ⊥) → Able es r q p
 
 -- A point met at the port q counts: it is not used and not able, and where it is met at a leg the route does not lie beyond its toe.

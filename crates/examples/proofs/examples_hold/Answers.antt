@@ -7,7 +7,7 @@ use Rattle.flank.specs.Signals.{along}
 use Rattle.flank.specs.Used.{with_used, used_table}
 use Rattle.paths.specs.Following.{step}
 use Rattle.paths.specs.Places.{lacks, are_within, are_new, are_signals_between}
-use Rattle.planbytes.specs.Files.{element_step, route_step}
+use Rattle.bits.specs.Bits.{bit}
 use Rattle.plan.specs.RequestTests.{asks_both_ways}
 use Rattle.plan.specs.Checks.{elements_fault, routes_fault}
 use Rattle.plan.specs.Plans.{reading}
@@ -15,7 +15,7 @@ use Rattle.examples.specs.Worked.{WorkedExamples}
 use Rattle.examples.proofs.examples_hold.Goals as goal
 
 holds : WorkedExamples
-unfolding blanks step lacks are_within are_new are_signals_between element_step route_step elements_fault routes_fault reading asks_both_ways flank_in flank_over no_marks marks_below requests_in branches_in branches_below found marks along with_used used_table
+unfolding blanks step lacks are_within are_new are_signals_between bit elements_fault routes_fault reading asks_both_ways flank_in flank_over no_marks marks_below requests_in branches_in branches_below found marks along with_used used_table
 holds = (refl, refl, refl, refl, refl, refl, refl, refl)
 
 pub returns : goal.returns

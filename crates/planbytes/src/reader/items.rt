@@ -38,6 +38,7 @@ impl<T: Recorded> Item for T {
 
 impl Reader<'_> {
     /// A list with as many items more at its end as a count says.
+    #[tactic(auto, using(crate::proofs::Times::times_more))]
     pub(crate) fn extended<T: Item + Copy, const N: usize>(
         &mut self,
         count: u8,

@@ -1,7 +1,8 @@
 //! Stepping over whole records, and what a record's bytes say.
 
 ghost use Rattle.std.specs.Prelude.{◌≡◌};
-ghost use Rattle.planbytes.specs.Records.{record_at, seen, said, made_of};
+ghost use Rattle.planbytes.specs.Bytes.{made_of};
+ghost use Rattle.planbytes.specs.Records.{record_at, seen, said};
 ghost use Rattle.planbytes.specs.Took.{Took};
 
 use crate::map::FieldMap;
@@ -15,13 +16,17 @@ impl<'a> Reader<'a> {
     pub(crate) fn record<T: Recorded>(&mut self) -> Result<Part<'a>, Fault>
         ensures { Took self.old self.new (made_of seen result) (record_at T.size) }
     {
-        let start = self.at;
-        let offset = self.place();
-        let (_, rest) = self.part.bytes.split_at(start);
+        let Part { bytes, offset } = self.rest;
         let map = FieldMap(self.byte()?);
-        let (bytes, _) = rest.split_at(T::size(map, rest).min(rest.len()));
-        self.at = start + bytes.len();
-        Ok(Part { bytes, offset })
+        let (record, rest) = bytes.split_at(T::size(map, bytes).min(bytes.len()));
+        self.rest = Part {
+            bytes: rest,
+            offset: offset + record.len(),
+        };
+        Ok(Part {
+            bytes: record,
+            offset,
+        })
     }
 }
 

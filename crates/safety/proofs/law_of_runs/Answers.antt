@@ -2,4 +2,4 @@ use Rattle.safety.proofs.PlanLaw.{plan_law}
 use Rattle.safety.proofs.law_of_runs.Goals as goal
 
 pub returns : goal.returns
-returns c = λ d sound m acts. plan_law d sound m acts
+returns c = plan_law

@@ -1,4 +1,4 @@
-use Rattle.plan.proofs.PlansExact.{checks_exact}
+use Rattle.plan.proofs.PlansExact.{plan_is_sound}
 use Rattle.sheetlaws.proofs.Reading.{sheets_in_order}
 use Rattle.sheetlaws.proofs.SectionsExact.{sections_exact, sections_in_range}
 use Rattle.sheetlaws.proofs.ElementsExact.{elements_exact, known_exact}
@@ -12,7 +12,7 @@ use Rattle.sheetlaws.proofs.sheets_are_exact.Goals as goal
 pub returns : goal.returns
 returns c = record {
   sheets = c.sheets.ensures;
-  sound = (checks_exact c.args.plan.now.drawing).0 c.args.plan.now.sound;
+  sound = plan_is_sound c.args.plan.now;
   order = sheets_in_order;
   sections = sections_exact;
   range = sections_in_range;

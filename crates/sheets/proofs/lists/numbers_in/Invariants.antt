@@ -4,4 +4,4 @@ use Rattle.sheets.proofs.lists.numbers_in.Given as goal
 
 abbrev pub invariant-loop-number : goal.invariant-loop-number
 invariant-loop-number g l =
-    l.numbers ≡ numbers_where (λ (k : ℕ). g.T.Concern.is_any (get_or l.table k g.T.Concern.NOTHING)) l.number
+    l.numbers ≡ numbers_where (λ (k : ℕ). g.T.Concern.is_any (get_or l.table k g.T.Concern.nothing)) l.number

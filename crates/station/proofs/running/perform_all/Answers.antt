@@ -7,11 +7,11 @@ use Rattle.acts.specs.Situations.{situation, situation_of, opened}
 use Rattle.acts.specs.Answers.{answer}
 use Rattle.acts.specs.Acts.{performed}
 use Rattle.plan.specs.declared.plan.Plan.{Plan}
-use Rattle.plan.proofs.PlansExact.{checks_exact}
+use Rattle.plan.proofs.PlansExact.{plan_is_sound}
 use Rattle.safety.proofs.PlanLaw.{plan_law}
 use Rattle.station.specs.declared.journal.Entry.{Entry}
 use Rattle.station.specs.Runs.{acts_in, answered_in, answered}
-use Rattle.station.proofs.Journaled.{err_is, ends_more, answers_more, answers_all}
+use Rattle.station.proofs.Journaled.{ends_more, answers_more, answers_all}
 use Rattle.station.proofs.running.perform_all.Goals as goal
 
 pub loop-entry-preserved : goal.loop-entry-preserved
@@ -23,10 +23,10 @@ loop-entry-preserved g c =
     let k = c.loop-entry.entry-index in
     let blank : Entry = record { act = act.Set 0; refusal = None } in
     let entry = get_or journal k blank in
-    let done = c.carry_out.ensures in
+    let done = c.perform.ensures.performed in
     let same : now.plan.drawing ≡ d = c.loop-entry.invariant.0 in
     let told : c.err-entry.result ≡ answer (sheets_of d) s entry.act =
-    c.err-entry.ensures.value ∙ (err_is c.carry_out.result ∙ (done.0.0 ∙ ap (λ (x : Drawing). answer (sheets_of x) s entry.act) same)) in
+    c.err-entry.ensures.value ∙ (done.0.0 ∙ ap (λ (x : Drawing). answer (sheets_of x) s entry.act) same) in
     let with_answer : Option Refusal → Entry = λ x. record { act = entry.act; refusal = x } in
     let is : with_answer c.err-entry.result ≡ answered_in d s entry = ap with_answer told in
     let next = done.0.1 ∙ ap (λ (x : Drawing). performed (sheets_of x) s entry.act) same in
@@ -49,4 +49,4 @@ returns-clause-answers g c =
 pub returns-clause-law : goal.returns-clause-law
 returns-clause-law g c =
     let d = c.args.plan.drawing in
-    plan_law d ((checks_exact d).0 c.args.plan.sound) (g.F.Field.meaning c.args.field) (acts_in c.args.journal.now)
+    plan_law d (plan_is_sound c.args.plan) (g.F.Field.meaning c.args.field) (acts_in c.args.journal.now)

@@ -1,7 +1,7 @@
 use Rattle.std.proofs.Common.{refl}
 use Rattle.walks.proofs.Exactly.{requests_exact, branches_exact}
-use Rattle.plan.proofs.PlansExact.{checks_exact}
+use Rattle.plan.proofs.PlansExact.{checks_exact, plan_is_sound}
 use Rattle.plan.proofs.plan.Plan.drawing.Goals as goal
 
 pub returns : goal.returns
-returns c = record { drawing = refl; sound = (checks_exact c.args.self.now.drawing).0 c.args.self.now.sound; exact = checks_exact; requests = requests_exact; branches = branches_exact }
+returns c = record { drawing = refl; sound = plan_is_sound c.args.self.now; exact = checks_exact; requests = requests_exact; branches = branches_exact }

@@ -4,7 +4,7 @@ use Rattle.std.proofs.lemmas.Iterator.Consumers.{YieldsList-from_enumerate}
 use Rattle.std.proofs.lemmas.Iterator.Search.{all_from_yields_List}
 use Rattle.bounded.specs.Lists.{listed}
 use Rattle.sheets.specs.declared.sheet.RouteSheet.{RouteSheet}
-use Rattle.readiness.specs.DropsAndRaises.{stays}
+use Rattle.readiness.specs.Settling.{stays}
 use Rattle.readiness.proofs.Turns.{all_stay_numbered}
 use Rattle.readiness.proofs.yard.Yard.all_stay.Goals as goal
 

@@ -1,6 +1,6 @@
 use Rattle.std.proofs.Common.{◌≡◌, ◌-◌}
 use Rattle.sheets.specs.Reading.{route_count}
-use Rattle.readiness.specs.DropsAndRaises.{passes_until}
+use Rattle.readiness.specs.Settling.{passes_until}
 use Rattle.readiness.proofs.yard.Yard.pass_until.Given as goal
 
 -- The field stays, and what is left of the passes comes to the same end.
