@@ -28,6 +28,18 @@ pub enum Act {
     Tell { event: Event },
 }
 
+/// An event is an act: it is told.
+impl From<Event> for Act {
+    ghost use Rattle.std.specs.Prelude.{◌≡◌};
+    ghost use Rattle.acts.specs.declared.act.Act.TheVariants.{Tell};
+
+    ghost from_gives = { λ event act. act ≡ Tell event };
+
+    fn from(event: Event) -> Act {
+        Act::Tell { event }
+    }
+}
+
 impl fmt::Display for Event {
     ghost use Rattle.std.specs.Prelude.{Some};
     ghost use Rattle.acts.specs.Texts.{event_text};

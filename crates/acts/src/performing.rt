@@ -1,6 +1,10 @@
 //! Performing an act.
 
-ghost use Rattle.acts.specs.Situations.{situation_of};
+ghost use Rattle.std.specs.Prelude.{◌≡◌};
+ghost use Rattle.std.specs.Result.{result_err};
+ghost use Rattle.acts.specs.Answers.{answer};
+ghost use Rattle.acts.specs.Acts.{performed};
+ghost use Rattle.acts.specs.Situations.{situation, situation_of};
 ghost use Rattle.acts.specs.Performing.{Steps, Performs};
 ghost use Rattle.acts.specs.declared.act.Act.TheVariants.{Set, Clear, Release, Tell};
 
@@ -9,67 +13,107 @@ use crate::events::{may_tell, tell};
 use crate::orders::send_orders;
 use crate::releasing::may_release;
 use field::field::Field;
+use holds::interlocking::Interlocking;
+use readiness::settling::settle;
 use readiness::yard::Yard;
 use refusals::refusal::Refusal;
 use sheets::sheet::Sheets;
 
-fn set<F: Field>(sheets: &Sheets, yard: &mut Yard<F>, route: u8) -> Result<(), Refusal>
-    ensures { Steps sheets.now (situation_of F.meaning yard.old) (situation_of F.meaning yard.new) (Set route) result }
+fn set<F: Field>(
+    sheets: &Sheets,
+    interlocking: &mut Interlocking,
+    field: &mut F,
+    route: u8,
+) -> Result<(), Refusal>
+    ensures { Steps sheets.now (situation interlocking.old (F.meaning field.old)) (situation interlocking.new (F.meaning field.new)) (Set route) result }
 {
     let route = usize::from(route);
     let sheet = sheets.route(route).ok_or(Refusal::NoSuchRoute)?;
-    yard.interlocking.may_set(sheets, sheet, route)?;
-    yard.interlocking.take_up(sheet, route);
-    send_orders(sheets, yard, route);
+    interlocking.may_set(sheets, sheet, route)?;
+    interlocking.take_up(sheet, route);
+    send_orders(sheets, interlocking, field, route);
     Ok(())
 }
 
-fn clear<F: Field>(sheets: &Sheets, yard: &mut Yard<F>, route: u8) -> Result<(), Refusal>
-    ensures { Steps sheets.now (situation_of F.meaning yard.old) (situation_of F.meaning yard.new) (Clear route) result }
+fn clear<F: Field>(
+    sheets: &Sheets,
+    interlocking: &mut Interlocking,
+    field: &mut F,
+    route: u8,
+) -> Result<(), Refusal>
+    ensures { Steps sheets.now (situation interlocking.old (F.meaning field.old)) (situation interlocking.new (F.meaning field.new)) (Clear route) result }
 {
     let route = usize::from(route);
     let sheet = sheets.route(route).ok_or(Refusal::NoSuchRoute)?;
-    yard.interlocking.may_clear(route)?;
-    yard.interlocking.try_again(sheet, route);
-    send_orders(sheets, yard, route);
+    interlocking.may_clear(route)?;
+    interlocking.try_again(sheet, route);
+    send_orders(sheets, interlocking, field, route);
     Ok(())
 }
 
-fn release<F: Field>(sheets: &Sheets, yard: &mut Yard<F>, route: u8) -> Result<(), Refusal>
-    ensures { Steps sheets.now (situation_of F.meaning yard.old) (situation_of F.meaning yard.new) (Release route) result }
+fn release<F: Field>(
+    sheets: &Sheets,
+    interlocking: &mut Interlocking,
+    field: &F,
+    route: u8,
+) -> Result<(), Refusal>
+    ensures { Steps sheets.now (situation interlocking.old (F.meaning field.now)) (situation interlocking.new (F.meaning field.now)) (Release route) result }
 {
     let route = usize::from(route);
     let sheet = sheets.route(route).ok_or(Refusal::NoSuchRoute)?;
-    may_release(sheet, yard, route)?;
-    yard.interlocking.give_up(route);
+    may_release(sheet, interlocking, field, route)?;
+    interlocking.give_up(route);
     Ok(())
 }
 
-fn take_event<F: Field>(sheets: &Sheets, yard: &mut Yard<F>, event: Event) -> Result<(), Refusal>
-    ensures { Steps sheets.now (situation_of F.meaning yard.old) (situation_of F.meaning yard.new) (Tell event) result }
+fn take_event<F: Field>(
+    sheets: &Sheets,
+    interlocking: &Interlocking,
+    field: &mut F,
+    event: Event,
+) -> Result<(), Refusal>
+    ensures { Steps sheets.now (situation interlocking.now (F.meaning field.old)) (situation interlocking.now (F.meaning field.new)) (Tell event) result }
 {
     may_tell(sheets, event)?;
-    tell(&mut yard.field, event);
+    tell(field, event);
     Ok(())
 }
 
 /// The act's own step, or why not; a refused act changes nothing.
-fn step<F: Field>(sheets: &Sheets, yard: &mut Yard<F>, act: Act) -> Result<(), Refusal>
-    ensures { Steps sheets.now (situation_of F.meaning yard.old) (situation_of F.meaning yard.new) act result }
+fn step<F: Field>(
+    sheets: &Sheets,
+    interlocking: &mut Interlocking,
+    field: &mut F,
+    act: Act,
+) -> Result<(), Refusal>
+    ensures { Steps sheets.now (situation interlocking.old (F.meaning field.old)) (situation interlocking.new (F.meaning field.new)) act result }
 {
     match act {
-        Act::Set { route } => set(sheets, yard, route),
-        Act::Clear { route } => clear(sheets, yard, route),
-        Act::Release { route } => release(sheets, yard, route),
-        Act::Tell { event } => take_event(sheets, yard, event),
+        Act::Set { route } => set(sheets, interlocking, field, route),
+        Act::Clear { route } => clear(sheets, interlocking, field, route),
+        Act::Release { route } => release(sheets, interlocking, field, route),
+        Act::Tell { event } => take_event(sheets, interlocking, field, event),
     }
 }
 
 /// Performs an act, or says why not. After an accepted act all settles; a refused one changes nothing.
-pub fn perform<F: Field>(sheets: &Sheets, yard: &mut Yard<F>, act: Act) -> Result<(), Refusal>
+pub fn perform<F: Field>(
+    sheets: &Sheets,
+    interlocking: &mut Interlocking,
+    field: &mut F,
+    act: Act,
+) -> Result<(), Refusal>
+    ensures answer { result_err result ≡ answer sheets.now (situation interlocking.old (F.meaning field.old)) act }
+    ensures situation { situation interlocking.new (F.meaning field.new) ≡ performed sheets.now (situation interlocking.old (F.meaning field.old)) act }
+{
+    step(sheets, interlocking, field, act)?;
+    settle(sheets, interlocking, field);
+    Ok(())
+}
+
+/// Performs an act in a yard, or says why not.
+pub fn perform_in<F: Field>(sheets: &Sheets, yard: &mut Yard<F>, act: Act) -> Result<(), Refusal>
     ensures { Performs sheets.now (situation_of F.meaning yard.old) (situation_of F.meaning yard.new) act result }
 {
-    step(sheets, yard, act)?;
-    yard.settle(sheets);
-    Ok(())
+    perform(sheets, &mut yard.interlocking, &mut yard.field, act)
 }

@@ -5,7 +5,7 @@ ghost use Rattle.std.specs.Result.{result_err};
 ghost use Rattle.acts.specs.Answers.{path_free_at, path_free, release_refusal};
 
 use field::field::Field;
-use readiness::yard::Yard;
+use holds::interlocking::Interlocking;
 use refusals::refusal::Refusal;
 use sheets::sheet::RouteSheet;
 
@@ -30,14 +30,15 @@ fn is_path_free<F: Field>(sheet: &RouteSheet, field: &F) -> bool
 /// Whether a route of the plan may be released, and if not, why.
 pub(crate) fn may_release<F: Field>(
     sheet: &RouteSheet,
-    yard: &Yard<F>,
+    interlocking: &Interlocking,
+    field: &F,
     route: usize,
 ) -> Result<(), Refusal>
-    ensures { result_err result ≡ release_refusal sheet.now route yard.now.interlocking (F.meaning yard.now.field) }
+    ensures { result_err result ≡ release_refusal sheet.now route interlocking.now (F.meaning field.now) }
 {
-    if !yard.interlocking.state(route).stands() {
+    if !interlocking.state(route).stands() {
         Err(Refusal::NotStanding)
-    } else if !is_path_free(sheet, &yard.field) {
+    } else if !is_path_free(sheet, field) {
         Err(Refusal::PathOccupied)
     } else {
         Ok(())

@@ -66,12 +66,12 @@ impl Bench {
 
     fn report(&mut self, element: u8, value: u8) {
         let event = Event::Report { element, value };
-        self.act(Act::Tell { event });
+        self.act(event.into());
     }
 
     fn light(&mut self, signal: u8, value: u8) {
         let event = Event::Lamp { signal, value };
-        self.act(Act::Tell { event });
+        self.act(event.into());
     }
 
     /// Looks at the signal of each place.

@@ -10,10 +10,10 @@ use std::io::{BufRead, BufReader};
 
 /// Does what a line asks for, and prints what it did.
 fn answer(rt: &HostRuntime, session: &mut Session, line: &str) -> anyhow::Result<()> {
-    let Some((name, rest)) = command_on(line) else {
+    let Some(line) = command_on(line) else {
         return Ok(());
     };
-    match asked(name, rest) {
+    match asked(line) {
         Ok(asked) => session.answer(rt, asked)?,
         Err(mistake) => print_error(rt, mistake)?,
     }

@@ -2,9 +2,8 @@
 
 use equipment::equipment::Equipment;
 use plan::plan::Plan;
+use spoken::answering::answer;
 use spoken::asked::Asked;
-use spoken::looking::see;
-use spoken::preparing::{read_plan, work_on};
 
 /// The plan that was read last, and the field.
 #[derive(Drop)]
@@ -24,13 +23,7 @@ impl Session {
 
     /// Does what is asked for, and prints what it did.
     pub fn answer(&mut self, rt: &HostRuntime, asked: Asked<'_>) -> anyhow::Result<()> {
-        match asked {
-            Asked::Plan(digits) => {
-                read_plan(rt, &mut self.plan, digits)?;
-                Ok(())
-            }
-            Asked::Field(work) => work_on(rt, &mut self.field, work),
-            Asked::See(look) => see(rt, &self.plan, &self.field, look),
-        }
+        answer(rt, &mut self.plan, &mut self.field, asked)?;
+        Ok(())
     }
 }

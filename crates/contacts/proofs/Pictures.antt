@@ -1,8 +1,8 @@
 -- What the bytes of a contact picture mean, and what they mean after one of them is written.
-use Rattle.std.specs.Prelude.{◌≡◌, ℕ, ◌+◌, ◌/◌, ◌%◌, ◌<◌, ◌≤◌, Bool, ◌≢◌, List, length, get_or, set, ◌==◌, slice_index, slice_index_or, slice_set, Option, refl}
+use Rattle.std.specs.Prelude.{◌≡◌, ℕ, ◌+◌, ◌/◌, ◌%◌, ◌<◌, ◌≤◌, Bool, ◌≢◌, List, length, take, get_or, set, ◌==◌, slice_index, slice_index_or, slice_set, Option, refl}
 use Rattle.std.proofs.Common.{sym, ap, ◌∙◌, inl, inr, arith}
 use Rattle.std.proofs.lemmas.List.FromFn.{get_or-map-range_with_len}
-use Rattle.std.proofs.lemmas.List.{get_or-set_same, get_or-set_other}
+use Rattle.std.proofs.lemmas.List.{length-take-le, get_or-take, get_or-set_same, get_or-set_other}
 use Rattle.std.proofs.lemmas.Bool.{lt-ltb, le-ltb, eq-eqb, ne_eqb, cond-true, cond-false, cases_eq, cases_lt}
 use Rattle.bits.specs.Bits.{bit, with_bit}
 use Rattle.bits.proofs.BitsAfter.{bit_after}
@@ -14,6 +14,17 @@ use Rattle.contacts.specs.Bytes.{device_in, report_put, block_put, lamp_put, byt
 use Rattle.contacts.specs.Picture.{byte_of, devices_in, sections_in, section_byte, section_bit, section_in, bytes_mean, with_byte}
 use Rattle.contacts.proofs.Decoded.{report_told, order_taken, block_told, lamp_told}
 use Rattle.contacts.proofs.Counted.{same_counted, set_counted}
+
+-- the bytes of the elements in front
+pub front_length : (bytes : List ℕ) → length bytes ≡ 104 → length (take 96 bytes) ≡ 96
+front_length bytes n = length-take-le 96 bytes (omega arith)
+
+pub front_at : (bytes : List ℕ) (e d : ℕ) → e < 96 → get_or (take 96 bytes) e d ≡ get_or bytes e d
+front_at bytes e d h = get_or-take 96 bytes e d h
+
+-- a section that there is not has no byte
+pub behind_all : (s : ℕ) → 64 ≤ s → 104 ≤ section_byte s
+behind_all s h = omega arith
 
 pub device_at : (bytes : List ℕ) (e : ℕ) (d : Device) → e < 96 → slice_index_or (devices_in bytes) e d ≡ device_in (slice_index bytes e)
 unfolding devices_in

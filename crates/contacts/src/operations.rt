@@ -6,9 +6,10 @@ ghost use Rattle.contacts.specs.Bytes.{report_put, block_put, lamp_put, byte_ord
 ghost use Rattle.contacts.specs.Picture.{byte_of, picture_meaning, device_read, report_read, blocked_read, burning_read, order_read, occupied_read, with_byte, with_section};
 ghost use Rattle.contacts.specs.Sized.{length-devices, length-sections};
 
-use crate::byte::{device_in, ordered_byte, with_block, with_lamp, with_report};
+use crate::byte::{BLOCKED, BURNING, CONTACTS, device_in, ordered_byte, with_position};
 use crate::picture::ContactPicture;
 use crate::section::{byte_of_section, occupied_in, with_occupation};
+use bits::byte::with_bit;
 use field::device::{Device, unknown_device};
 use field::field::Field;
 use layout::position::Position;
@@ -38,16 +39,14 @@ impl ContactPicture {
     }
 
     /// The device that the byte of an element says; the unknown one where there is none.
-    #[tactic(auto, using(crate::proofs::Pictures::device_at))]
+    #[tactic(auto, using(crate::proofs::Pictures::device_at, crate::proofs::Pictures::front_length, crate::proofs::Pictures::front_at))]
     fn device(&self, element: u8) -> Device
         ensures meaning { result ≡ device_of (picture_meaning self.now) element }
         ensures bits { result ≡ device_read self.now.bytes element }
     {
-        if element < 96 {
-            device_in(self.bytes[element as usize])
-        } else {
-            unknown_device()
-        }
+        self.bytes[..96]
+            .get(element as usize)
+            .map_or(unknown_device(), |byte| device_in(*byte))
     }
 
     /// Changes the byte of an element, if there is one.
@@ -96,16 +95,14 @@ impl Field for ContactPicture {
         self.device(element).order
     }
 
-    #[tactic(auto, using(crate::proofs::Pictures::section_at))]
+    #[tactic(auto, using(crate::proofs::Pictures::section_at, crate::proofs::Pictures::behind_all))]
     fn is_occupied(&self, section: u8) -> bool
         ensures meaning { result ≡ occupied_of (picture_meaning self.now) section }
         ensures bits { result ≡ occupied_read self.now.bytes section }
     {
-        if section < 64 {
-            occupied_in(self.bytes[byte_of_section(section)], section)
-        } else {
-            true
-        }
+        self.bytes
+            .get(byte_of_section(section))
+            .is_none_or(|byte| occupied_in(*byte, section))
     }
 
     #[tactic(auto, using(crate::proofs::Pictures::order_written))]
@@ -121,7 +118,7 @@ impl Field for ContactPicture {
         ensures meaning { picture_meaning self.new ≡ told_report (picture_meaning self.old) element report }
         ensures bytes { self.new.bytes ≡ with_byte self.old.bytes element (λ b. report_put b report) }
     {
-        self.change(element, |byte| with_report(byte, report));
+        self.change(element, |byte| with_position(byte, CONTACTS, report));
     }
 
     #[tactic(auto, using(crate::proofs::Pictures::block_written))]
@@ -129,7 +126,7 @@ impl Field for ContactPicture {
         ensures meaning { picture_meaning self.new ≡ told_block (picture_meaning self.old) element blocked }
         ensures bytes { self.new.bytes ≡ with_byte self.old.bytes element (λ b. block_put b blocked) }
     {
-        self.change(element, |byte| with_block(byte, blocked));
+        self.change(element, |byte| with_bit(byte, BLOCKED, blocked));
     }
 
     #[tactic(auto, using(crate::proofs::Pictures::lamp_written))]
@@ -137,7 +134,7 @@ impl Field for ContactPicture {
         ensures meaning { picture_meaning self.new ≡ told_lamp (picture_meaning self.old) element burning }
         ensures bytes { self.new.bytes ≡ with_byte self.old.bytes element (λ b. lamp_put b burning) }
     {
-        self.change(element, |byte| with_lamp(byte, burning));
+        self.change(element, |byte| with_bit(byte, BURNING, burning));
     }
 
     #[tactic(auto, using(crate::proofs::Pictures::section_written))]

@@ -1,6 +1,6 @@
 //! A list of a caller that is filled from the front, as far as it has room.
 
-ghost use Rattle.std.specs.Prelude.{◌≡◌, ◌<◌, cond, [], ◌∷◌};
+ghost use Rattle.std.specs.Prelude.{◌≡◌, ◌<◌, [], ◌∷◌};
 ghost use Rattle.flank.specs.Fillings.{Adds};
 
 use tables::table::put;
@@ -29,16 +29,6 @@ impl<'a, T: Copy> Filling<'a, T> {
     {
         put(self.list, self.count, answer);
         self.count += 1;
-    }
-
-    /// Writes the next answer, if there is one to give.
-    pub(crate) fn add_if(&mut self, given: bool, answer: T)
-        requires { self.old.count < usize.MAX }
-        ensures { Adds self.old (cond given (answer ∷ []) []) self.new }
-    {
-        if given {
-            self.add(answer);
-        }
     }
 
     /// How many answers the list was given.

@@ -1,6 +1,6 @@
 //! Lists of the requests and of the open branches in a table.
 
-ghost use Rattle.std.specs.Prelude.{◌≡◌, ◌+◌, ◌<◌, cond, [], ◌∷◌, length, map};
+ghost use Rattle.std.specs.Prelude.{◌≡◌, ◌+◌, ◌≤◌, length, map};
 ghost use Rattle.flank.specs.Fillings.{Adds, AddsMade};
 ghost use Rattle.flank.specs.Protection.{requests_at, requests_in, branches_in, put_at};
 
@@ -17,7 +17,7 @@ fn add_requests<A: Answering>(
     answering: &A,
     filling: &mut Filling<A::Answer>,
 )
-    requires { filling.old.count < 100000 }
+    requires { filling.old.count + 2 ≤ usize.MAX }
     ensures { AddsMade (A.answer_to answering.now) filling.old (requests_at element mark) filling.new }
 {
     if mark.plus {
@@ -51,12 +51,14 @@ impl Filling<'_, Branch> {
     /// Adds the open branches of a table of the flank of `from`.
     #[tactic(auto, using(crate::proofs::Lists::branches_none, crate::proofs::Lists::branches_few))]
     pub(crate) fn add_open(&mut self, from: u8, marked: &[Mark; 96])
-        requires { self.old.count < 100000 }
+        requires { self.old.count + 96 ≤ usize.MAX }
         ensures { Adds self.old (branches_in from marked.now 96) self.new }
     {
         for (last, mark) in marked.iter().enumerate() {
-            let last = last as u8;
-            self.add_if(mark.open_end, Branch { from, last });
+            if mark.open_end {
+                let last = last as u8;
+                self.add(Branch { from, last });
+            }
         }
     }
 }

@@ -4,6 +4,7 @@ use denote.Ref.{Bor}
 use Rattle.layout.specs.declared.position.Position.{Position}
 use Rattle.sheets.specs.declared.sheet.RouteSheet.{RouteSheet}
 use Rattle.sheets.specs.Reading.{need_of, request_of, wanted_by}
+use Rattle.holds.specs.declared.hold.Hold.{Hold}
 use Rattle.holds.specs.declared.interlocking.Interlocking.{Interlocking}
 use Rattle.holds.specs.declared.state.RouteState.TheVariants as state
 use Rattle.holds.specs.Holds.{granted, left_by, open_to}
@@ -14,35 +15,43 @@ use Rattle.holds.specs.Interlockings.{hold_of, state_of, with_hold, with_state}
 abbrev pub joined_by : Interlocking → ℕ → ℕ → Position → Interlocking
 joined_by i r e p = with_hold i e (granted (hold_of i e) r p)
 
--- What a route itself needs, it holds.
-abbrev pub hold_needed : Interlocking → ℕ → ℕ → Option Position → Interlocking
-hold_needed i r e None = i
-hold_needed i r e (Some p) = joined_by i r e p
+-- It joins the hold in a position, if there is one.
+abbrev pub joined_if_any : Interlocking → ℕ → ℕ → Option Position → Interlocking
+joined_if_any i r e None = i
+joined_if_any i r e (Some p) = joined_by i r e p
+
+-- It joins the hold in the position that a choice gives, if any.
+abbrev pub joined_as : (Interlocking → ℕ → Option Position) → ℕ → Interlocking → ℕ → Interlocking
+joined_as choice r i e = joined_if_any i r e (choice i e)
+
+-- A route so joins the holds of the elements that it wants, one after another.
+abbrev pub wanted_joined : (Interlocking → ℕ → Option Position) → RouteSheet → ℕ → Interlocking → Interlocking
+wanted_joined choice s r i = fold (joined_as choice r) i (wanted_by s)
 
 -- What a closure answers is what a choice says.
 abbrev pub AnswersBy : (Bor Interlocking → ℕ → Option Position → Type 0) → (Interlocking → ℕ → Option Position) → Type 0
 AnswersBy answers choice = (i : Bor Interlocking) (e : ℕ) (p : Option Position) → answers i e p → p ≡ choice i.now e
 
--- A route joins the holds of the elements that it wants, one after another, each in the position that a choice gives, if any.
-abbrev pub wanted_joined : (Interlocking → ℕ → Option Position) → RouteSheet → ℕ → Interlocking → Interlocking
-wanted_joined choice s r i = fold (λ (j : Interlocking) (e : ℕ). hold_needed j r e (choice j e)) i (wanted_by s)
+-- The choice for needs: the position in which the route itself needs the element.
+abbrev pub need_choice : RouteSheet → Interlocking → ℕ → Option Position
+need_choice s i e = need_of s e
 
-abbrev pub grant_need : RouteSheet → ℕ → Interlocking → ℕ → Interlocking
-grant_need s r i e = hold_needed i r e (need_of s e)
-
+-- What a route itself needs, it holds.
 abbrev pub needs_granted : RouteSheet → ℕ → Interlocking → Interlocking
-needs_granted s r i = fold (grant_need s r) i (wanted_by s)
+needs_granted s r i = wanted_joined (need_choice s) s r i
 
--- A request is granted if the element is held by nobody or in the position requested; else it is denied.
-abbrev pub hold_requested : Interlocking → ℕ → ℕ → Option Position → Interlocking
-hold_requested i r e None = i
-hold_requested i r e (Some p) = cond (open_to (hold_of i e) p) (joined_by i r e p) i
+-- A request may be granted if the element is held by nobody or in the position requested.
+abbrev pub grantable : Hold → Option Position → Option Position
+grantable h None = None
+grantable h (Some p) = cond (open_to h p) (Some p) None
 
-abbrev pub grant_request : RouteSheet → ℕ → Interlocking → ℕ → Interlocking
-grant_request s r i e = hold_requested i r e (request_of s e)
+-- The choice for requests: the position in which the route requests the element, if it may be granted.
+abbrev pub request_choice : RouteSheet → Interlocking → ℕ → Option Position
+request_choice s i e = grantable (hold_of i e) (request_of s e)
 
+-- What may be granted to a route is granted; else it is denied.
 abbrev pub requests_granted : RouteSheet → ℕ → Interlocking → Interlocking
-requests_granted s r i = fold (grant_request s r) i (wanted_by s)
+requests_granted s r i = wanted_joined (request_choice s) s r i
 
 -- A route leaves the holds of the first n elements.
 abbrev pub take_out : Interlocking → ℕ → ℕ → Interlocking

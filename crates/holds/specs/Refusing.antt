@@ -2,13 +2,13 @@
 use Rattle.std.specs.Prelude.{ℕ, Bool, true, cond, not, ◌&&◌, ◌||◌, Some, None, Option, nat_eq}
 use Rattle.std.specs.Option.{option_eq}
 use Rattle.layout.specs.declared.position.Position.{Position}
-use Rattle.layout.specs.Every.{every}
+use Rattle.bounded.specs.Lists.{listed}
 use Rattle.refusals.specs.declared.refusal.Refusal.{Refusal}
 use Rattle.refusals.specs.declared.refusal.Refusal.TheVariants as refusal
 use Rattle.sheets.specs.declared.sheet.RouteSheet.{RouteSheet}
 use Rattle.sheets.specs.declared.sheet.Sheets.{Sheets}
-use Rattle.std.specs.List.{list_all}
-use Rattle.sheets.specs.Reading.{route_count, route_sheet, need_of, on_path, uses, wanted_by, used_by}
+use Rattle.std.specs.List.{list_all, enumerate_from}
+use Rattle.sheets.specs.Reading.{need_of, on_path, uses, wanted_by, used_by}
 use Rattle.holds.specs.declared.hold.Hold.{Hold}
 use Rattle.holds.specs.declared.interlocking.Interlocking.{Interlocking}
 use Rattle.holds.specs.Holds.{open_to}
@@ -34,8 +34,9 @@ apart a b = list_all (clear_of a b) (used_by a)
 abbrev pub admits : RouteSheet → Interlocking → ℕ → RouteSheet → Bool
 admits s i q other = not (stands (state_of i q)) || apart s other
 
-unfoldable pub all_admit : Sheets → RouteSheet → Interlocking → Bool
-all_admit t s i = every (λ q. admits s i q (route_sheet t q)) (route_count t) 0
+-- Every route of the plan, with its number and its sheet, admits the route.
+abbrev pub all_admit : Sheets → RouteSheet → Interlocking → Bool
+all_admit t s i = list_all (λ (p : ℕ × RouteSheet). admits s i p.0 p.1) (enumerate_from 0 (listed t.routes))
 
 -- An element may be held as it is needed.
 abbrev pub fits_hold : Hold → Option Position → Bool

@@ -1,6 +1,6 @@
 //! The path of a route.
 
-ghost use Rattle.std.specs.Prelude.{◌≡◌, ◌<◌, length};
+ghost use Rattle.std.specs.Prelude.{◌≡◌, ◌∷◌};
 ghost use Rattle.paths.specs.Paths.{may_start, is_start, may_end, is_end, is_path, has_path};
 
 use crate::places::{all_new, all_signals_between, all_within};
@@ -40,30 +40,27 @@ fn may_end(kind: Kind, entered: u8) -> bool
     }
 }
 
-/// Whether the way over a path can be followed to an element at which it may end.
-fn ends_soundly(elements: &[Element], path: &[u8]) -> bool
-    requires { 0 < length path.now }
-    ensures { result ≡ is_end elements.now path.now }
+/// Whether the way over a path, its first element and the others, can be followed to an element at which it may end.
+fn ends_soundly(elements: &[Element], first: u8, rest: &[u8]) -> bool
+    ensures { result ≡ is_end elements.now (first ∷ rest.now) }
 {
-    let (Some((first, rest)), Some(last)) = (path.split_first(), path.last()) else {
-        return false;
-    };
-    let kind = element_at(elements, *last as usize).kind;
-    follow(elements, *first, rest).is_some_and(|entered| may_end(kind, entered))
+    let kind = element_at(elements, *rest.last().unwrap_or(&first) as usize).kind;
+    follow(elements, first, rest).is_some_and(|entered| may_end(kind, entered))
 }
 
 /// Whether elements in a row are a sound path for a route of a class.
 fn is_sound_path(elements: &[Element], class: RouteClass, path: &[u8]) -> bool
     ensures { result ≡ is_path elements.now class path.now }
 {
-    let [first, _, .., _] = path else {
+    let [first, rest @ ..] = path else {
         return false;
     };
-    all_within(elements, path)
+    rest.len() > 1
+        && all_within(elements, path)
         && all_new(&[], path)
         && is_start(elements, class, *first)
         && !all_signals_between(elements, path)
-        && ends_soundly(elements, path)
+        && ends_soundly(elements, *first, rest)
 }
 
 /// Whether a route has a path, and a sound one.

@@ -26,6 +26,7 @@ use Rattle.flank.specs.Search.{unmarked}
 use Rattle.flank.specs.Protection.{route_marks, request, requests_of}
 use Rattle.walks.specs.Walks.{Is, Prefers, both, plus, minus, Able, derailer, signal, point, Requested}
 use Rattle.walks.specs.Exactly.{In}
+use Rattle.walks.proofs.Told.{able_point}
 use Rattle.walks.proofs.Tables.{in_requests, requests_have}
 use Rattle.walks.proofs.Exactly.{requests_exact}
 use Rattle.plan.specs.RequestTests.{is_torn, asks_both_ways}
@@ -51,11 +52,6 @@ able_kind (derailer k) = inl refl
 able_kind (signal k m f) = inl refl
 able_kind (point p k f d b) = inr k
 
-able_point : {es : List Element} {r : Route} {q : Join} {p : Position} → Able es r q p → Is kind.Point es q → Prefers (at es q.element).dual p
-able_point (derailer k) i = cc
-able_point (signal k m f) i = cc
-able_point (point p k f d b) i = d
-
 minus_point : {es : List Element} {r : Route} {q : Join} → Able es r q position.Minus → Is kind.Point es q
 minus_point a = elim (able_kind a) [ inl e ↦ cc | inr k ↦ k ]
 
@@ -75,7 +71,7 @@ module _ (es : List Element) (r : Route) (sound : SoundElements es) (few : lengt
 
   prefers_of : (e : ℕ) (p : Position) → (at es e).kind ≡ kind.Point → Requested es r e p → Prefers (at es e).dual p
   prefers_of e p k q =
-      subst (λ (n : ℕ). Prefers (at es n).dual p) q.is (able_point q.able (subst (λ (n : ℕ). (at es n).kind ≡ kind.Point) (sym q.is) k))
+      subst (λ (n : ℕ). Prefers (at es n).dual p) q.is (able_point (subst (λ (n : ℕ). (at es n).kind ≡ kind.Point) (sym q.is) k) q.able).2
 
   abbrev marked : List Mark
   marked = route_marks es r

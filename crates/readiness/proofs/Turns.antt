@@ -1,6 +1,5 @@
 -- The start, a turn and the end of the loops that settle.
 use Rattle.std.proofs.Common.{◌≡◌, ℕ, zero, suc, ◌+◌, ◌-◌, ◌<◌, ◌≤◌, true, false, refl, ap, ◌∙◌, add-one, arith}
-use Rattle.std.specs.List.{list_all, enumerate_from}
 use Rattle.bounded.specs.Lists.{listed}
 use Rattle.field.specs.Meaning.{Meaning}
 use Rattle.sheets.specs.declared.sheet.RouteSheet.{RouteSheet}
@@ -9,6 +8,7 @@ use Rattle.sheets.specs.Reading.{route_count, route_sheet, past_the_end}
 use Rattle.holds.specs.declared.interlocking.Interlocking.{Interlocking}
 use Rattle.readiness.specs.declared.settling.Settling.{Settling}
 use Rattle.readiness.specs.Settling.{settle_one, pass, stays, all_stay, passes_until}
+use Rattle.layout.specs.Every.{every}
 use Rattle.layout.proofs.EveryList.{all_places}
 
 module _ (w : Settling) (t : Sheets) (m : Meaning) where
@@ -22,8 +22,7 @@ module _ (w : Settling) (t : Sheets) (m : Meaning) where
 
   -- all sheets with their numbers, one after another
   pub all_stay_numbered : (i : Interlocking)
-      → list_all (λ (p : ℕ × RouteSheet). stays w t m i p.1 p.0) (enumerate_from 0 (listed t.routes)) ≡ all_stay w t m i
-  unfolding all_stay
+      → all_stay w t m i ≡ every (λ r. stays w t m i (route_sheet t r) r) (route_count t) 0
   all_stay_numbered i =
       all_places (λ (p : ℕ × RouteSheet). stays w t m i p.1 p.0) (λ r. stays w t m i (route_sheet t r) r) (listed t.routes) past_the_end (λ j l. refl)
 

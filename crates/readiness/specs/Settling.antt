@@ -1,6 +1,7 @@
 -- What settles after every accepted act: clear routes are dropped, and then waiting ones raised, as it is due.
 use Rattle.std.specs.Prelude.{ℕ, zero, suc, Bool, true, false, cond, not, ◌||◌}
-use Rattle.layout.specs.Every.{every}
+use Rattle.std.specs.List.{list_all, enumerate_from}
+use Rattle.bounded.specs.Lists.{listed}
 use Rattle.field.specs.Meaning.{Meaning}
 use Rattle.sheets.specs.declared.sheet.RouteSheet.{RouteSheet}
 use Rattle.sheets.specs.declared.sheet.Sheets.{Sheets}
@@ -43,8 +44,8 @@ abbrev pub stays : Settling → Sheets → Meaning → Interlocking → RouteShe
 stays w t m i s r = not (concerns w (state_of i r)) || leaves w (sheet_ready t s i m r)
 
 -- Nothing is left to do: when dropping, every clear route is ready; when raising, no waiting one is.
-unfoldable pub all_stay : Settling → Sheets → Meaning → Interlocking → Bool
-all_stay w t m i = every (λ r. stays w t m i (route_sheet t r) r) (route_count t) 0
+abbrev pub all_stay : Settling → Sheets → Meaning → Interlocking → Bool
+all_stay w t m i = list_all (λ (p : ℕ × RouteSheet). stays w t m i p.1 p.0) (enumerate_from 0 (listed t.routes))
 
 -- Passes until nothing is left to do, n at the most.
 unfoldable pub passes_until : Settling → Sheets → Meaning → Interlocking → ℕ → Interlocking

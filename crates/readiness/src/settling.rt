@@ -1,9 +1,13 @@
-//! The two ways of settling.
+//! What settles after every accepted act, and the two ways of settling.
 
 ghost use Rattle.std.specs.Prelude.{◌≡◌};
-ghost use Rattle.readiness.specs.Settling.{concerns, leaves, state_after};
+ghost use Rattle.readiness.specs.Settling.{concerns, leaves, state_after, settled};
 
+use crate::passes::pass_until;
+use field::field::Field;
+use holds::interlocking::Interlocking;
 use holds::state::RouteState;
+use sheets::sheet::Sheets;
 
 /// What is done with the routes: clear ones that are not ready are dropped, waiting ones that are ready are raised.
 #[derive(Clone, Copy)]
@@ -42,4 +46,12 @@ impl Settling {
             Settling::Raising => state.rises(ready),
         }
     }
+}
+
+/// Drops clear routes until every clear route is ready, then raises waiting routes until none of them is ready.
+pub fn settle<F: Field>(sheets: &Sheets, interlocking: &mut Interlocking, field: &F)
+    ensures { interlocking.new ≡ settled sheets.now (F.meaning field.now) interlocking.old }
+{
+    pass_until(Settling::Dropping, sheets, interlocking, field);
+    pass_until(Settling::Raising, sheets, interlocking, field);
 }

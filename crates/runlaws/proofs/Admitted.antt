@@ -19,6 +19,7 @@ use Rattle.holds.specs.RouteSets.{contains, is_empty}
 use Rattle.holds.specs.Holds.{open_to}
 use Rattle.holds.specs.States.{stands}
 use Rattle.holds.specs.Interlockings.{hold_of, state_of}
+use Rattle.holds.proofs.Admitting.{all_admit_numbered}
 use Rattle.holds.specs.Refusing.{excuses, clashes, clear_of, apart, admits, all_admit, fits_hold, fits, all_fit, set_refusal}
 use Rattle.acts.specs.declared.act.Act.TheVariants as act
 use Rattle.acts.specs.Situations.{situation}
@@ -68,11 +69,10 @@ fits_from h (Some p) f =
     (f p refl)
 
 free_accepted : (t : Sheets) → Lawful t → (i : Interlocking) (m : Meaning) (r : ℕ) → SetFree t i r → answer t (situation i m) (act.Set r) ≡ None
-unfolding all_admit
 free_accepted t law i m r free =
     let sheet = route_sheet t r in
     let admit : all_admit t sheet i ≡ true =
-    every_from (λ q. admits sheet i q (route_sheet t q)) (route_count t) 0
+    all_admit_numbered t sheet i ∙ every_from (λ q. admits sheet i q (route_sheet t q)) (route_count t) 0
     (λ q _ below.
     let up = stands (state_of i q) in
     ⊎_elim
@@ -157,15 +157,14 @@ alike_back t u h =
 
 module _ (t u : Sheets) (law : Lawful t) (h : Alike t u) (i : Interlocking) (r : ℕ) (route : has_route t r ≡ true) where
   admit_over : all_admit t (route_sheet t r) i ≡ true → all_admit u (route_sheet u r) i ≡ true
-  unfolding all_admit
   admit_over e =
-      every_from (λ q. admits (route_sheet u r) i q (route_sheet u q)) (route_count u) 0
+      all_admit_numbered u (route_sheet u r) i ∙ every_from (λ q. admits (route_sheet u r) i q (route_sheet u q)) (route_count u) 0
       (λ q _ below.
       let same = h.count in
       let up = stands (state_of i q) in
       let within : q < route_count t = omega (arith, below, same) in
       sym (ap (λ b. not up || b) (apart_same (route_sheet t r) (route_sheet t q) (route_sheet u r) (route_sheet u q) (h.routes r route) (h.routes q (lt-ltb q (route_count t) within)))) ∙
-      every_each (λ q. admits (route_sheet t r) i q (route_sheet t q)) (route_count t) 0 e q (omega arith) (omega arith))
+      every_each (λ q. admits (route_sheet t r) i q (route_sheet t q)) (route_count t) 0 (sym (all_admit_numbered t (route_sheet t r) i) ∙ e) q (omega arith) (omega arith))
 
   fit_over : all_fit (route_sheet t r) i ≡ true → all_fit (route_sheet u r) i ≡ true
   fit_over e = list_all_from (fits (route_sheet u r) i) (wanted_by (route_sheet u r)) (λ k _. go k (need_of (route_sheet u r) k) refl)

@@ -20,6 +20,7 @@ use Rattle.holds.specs.Holds.{free_hold}
 use Rattle.holds.specs.States.{stands, waits_again}
 use Rattle.holds.specs.Interlockings.{idle, hold_of, held_by, state_of, with_state}
 use Rattle.holds.specs.Granting.{needs_granted, taken_up, tried_again, given_up}
+use Rattle.holds.proofs.Admitting.{all_admit_numbered}
 use Rattle.holds.specs.Refusing.{excuses, clashes, clear_of, apart, admits, all_admit, fits, all_fit, set_refusal, clear_refusal}
 use Rattle.readiness.specs.Readiness.{ready}
 use Rattle.readiness.specs.Settling.{settled}
@@ -192,9 +193,8 @@ module _ (t : Sheets) (i : Interlocking) (r : ℕ) (ok : Accepted t i r) where
   module _ (law : Lawful t) where
     pub new_apart :
         (q x : ℕ) → has_route t q ≡ true → stands (state_of i q) ≡ true → Uses t r x → Uses t q x → Excused t r q x ⊎ Excused t q r x
-    unfolding all_admit
     new_apart q x route st ur uq =
-        let admitted = every_each (λ q. admits (route_sheet t r) i q (route_sheet t q)) (route_count t) 0 ok.admit q (omega arith) (omega (arith, route_counts t q route)) in
+        let admitted = every_each (λ q. admits (route_sheet t r) i q (route_sheet t q)) (route_count t) 0 (sym (all_admit_numbered t (route_sheet t r) i) ∙ ok.admit) q (omega arith) (omega (arith, route_counts t q route)) in
         ⊎_elim
         (λ (n : not (stands (state_of i q)) ≡ true). absurd (both_ways (stands (state_of i q)) (not-true (stands (state_of i q)) n) st))
         (λ (clear : apart (route_sheet t r) (route_sheet t q) ≡ true).

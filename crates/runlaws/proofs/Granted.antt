@@ -15,7 +15,7 @@ use Rattle.holds.specs.Positions.{same}
 use Rattle.holds.specs.RouteSets.{contains, with_route, is_empty}
 use Rattle.holds.specs.Holds.{free_hold, granted, left_by, open_to}
 use Rattle.holds.specs.Interlockings.{hold_of, held_by, with_hold}
-use Rattle.holds.specs.Granting.{joined_by, hold_needed, grant_need, hold_requested, grant_request, take_out, taken_out}
+use Rattle.holds.specs.Granting.{joined_by, joined_if_any, joined_as, need_choice, grantable, request_choice, take_out, taken_out}
 use Rattle.holds.specs.Refusing.{fits_hold, fits}
 use Rattle.runlaws.proofs.Lists.{set_case}
 
@@ -106,19 +106,19 @@ grown_join i r e p room =
       sized = sized_hold i e new (length-set (hold_of i e).routes.members r true);
     }
 
-grown_need : (i : Interlocking) (r e : ℕ) (w : Option Position) → fits_hold (hold_of i e) w ≡ true → Grown r i (hold_needed i r e w)
+grown_need : (i : Interlocking) (r e : ℕ) (w : Option Position) → fits_hold (hold_of i e) w ≡ true → Grown r i (joined_if_any i r e w)
 grown_need i r e None f = grown_self r i
 grown_need i r e (Some p) f = grown_join i r e p f
 
-grown_request : (i : Interlocking) (r e : ℕ) (w : Option Position) → Grown r i (hold_requested i r e w)
+grown_request : (i : Interlocking) (r e : ℕ) (w : Option Position) → Grown r i (joined_if_any i r e (grantable (hold_of i e) w))
 grown_request i r e None = grown_self r i
 grown_request i r e (Some p) =
-    cond_both (open_to (hold_of i e) p) (joined_by i r e p) i (Grown r i) (λ t. grown_join i r e p t) (λ _. grown_self r i)
+    cond_both (open_to (hold_of i e) p) (Some p) None (λ x. Grown r i (joined_if_any i r e x)) (λ t. grown_join i r e p t) (λ _. grown_self r i)
 
 -- what an element is needed for fits still, once an element is held as it is needed
 fits_still :
     (s : RouteSheet) (i : Interlocking) (r e : ℕ) (w : Option Position) → need_of s e ≡ w
-    → (k : ℕ) → fits s i k ≡ true → fits s (hold_needed i r e w) k ≡ true
+    → (k : ℕ) → fits s i k ≡ true → fits s (joined_if_any i r e w) k ≡ true
 fits_still s i r e None is k f = f
 fits_still s i r e (Some p) is k f =
     let new = granted (hold_of i e) r p in
@@ -132,22 +132,22 @@ fits_still s i r e (Some p) is k f =
     (set_case i.holds e new free_hold k)
 
 module _ (s : RouteSheet) (r : ℕ) where
-  pub grown_requests : (xs : List ℕ) (i : Interlocking) → Grown r i (fold (grant_request s r) i xs)
+  pub grown_requests : (xs : List ℕ) (i : Interlocking) → Grown r i (fold (joined_as (request_choice s) r) i xs)
   grown_requests [] i = grown_self r i
   grown_requests (x ∷ xs) i =
-      let j = grant_request s r i x in
-      grown_then r i j (fold (grant_request s r) j xs) (grown_request i r x (request_of s x)) (grown_requests xs j)
+      let j = joined_as (request_choice s) r i x in
+      grown_then r i j (fold (joined_as (request_choice s) r) j xs) (grown_request i r x (request_of s x)) (grown_requests xs j)
 
-  pub grown_needs : (xs : List ℕ) (i : Interlocking) → ((k : ℕ) → In k xs → fits s i k ≡ true) → Grown r i (fold (grant_need s r) i xs)
+  pub grown_needs : (xs : List ℕ) (i : Interlocking) → ((k : ℕ) → In k xs → fits s i k ≡ true) → Grown r i (fold (joined_as (need_choice s) r) i xs)
   grown_needs [] i f = grown_self r i
   grown_needs (x ∷ xs) i f =
-      let j = grant_need s r i x in
-      grown_then r i j (fold (grant_need s r) j xs) (grown_need i r x (need_of s x) (f x (inl refl)))
+      let j = joined_as (need_choice s) r i x in
+      grown_then r i j (fold (joined_as (need_choice s) r) j xs) (grown_need i r x (need_of s x) (f x (inl refl)))
       (grown_needs xs j (λ k h. fits_still s i r x (need_of s x) refl k (f k (inr h))))
 
 need_held :
     (i : Interlocking) (r e : ℕ) (w : Option Position) (p : Position) → w ≡ Some p → Sized i → e < 96 → r < 64
-    → (held_by (hold_needed i r e w) r e ≡ true) × ((hold_of (hold_needed i r e w) e).position ≡ p)
+    → (held_by (joined_if_any i r e w) r e ≡ true) × ((hold_of (joined_if_any i r e w) e).position ≡ p)
 need_held i r e None p is s below route = absurd (let z : ◌≡◌ {A = ℕ} 0 1 = cc in let no : ⊥ = omega arith in no)
 need_held i r e (Some x) p is s below route =
     let new = granted (hold_of i e) r x in
@@ -161,10 +161,10 @@ need_held i r e (Some x) p is s below route =
 pub needs_held :
     (s : RouteSheet) (r : ℕ) → r < 64 → (xs : List ℕ) (i : Interlocking) → Sized i → ((k : ℕ) → In k xs → fits s i k ≡ true)
     → (k : ℕ) (p : Position) → k < 96 → In k xs → need_of s k ≡ Some p
-    → (held_by (fold (grant_need s r) i xs) r k ≡ true) × ((hold_of (fold (grant_need s r) i xs) k).position ≡ p)
+    → (held_by (fold (joined_as (need_choice s) r) i xs) r k ≡ true) × ((hold_of (fold (joined_as (need_choice s) r) i xs) k).position ≡ p)
 needs_held s r route [] i sized f k p below member is = absurd member
 needs_held s r route (x ∷ xs) i sized f k p below member is =
-    let j = grant_need s r i x in
+    let j = joined_as (need_choice s) r i x in
     let step : Grown r i j = grown_need i r x (need_of s x) (f x (inl refl)) in
     let later : (k : ℕ) → In k xs → fits s j k ≡ true = λ k h. fits_still s i r x (need_of s x) refl k (f k (inr h)) in
     ⊎_elim
@@ -172,7 +172,7 @@ needs_held s r route (x ∷ xs) i sized f k p below member is =
     let now : (held_by j r x ≡ true) × ((hold_of j x).position ≡ p) =
     need_held i r x (need_of s x) p (ap (need_of s) here ∙ is) sized (omega arith) route in
     let stays = (grown_needs s r xs j later).kept r x now.0 in
-    subst (λ y. (held_by (fold (grant_need s r) j xs) r y ≡ true) × ((hold_of (fold (grant_need s r) j xs) y).position ≡ p)) here
+    subst (λ y. (held_by (fold (joined_as (need_choice s) r) j xs) r y ≡ true) × ((hold_of (fold (joined_as (need_choice s) r) j xs) y).position ≡ p)) here
     (stays.0, stays.1 ∙ now.1))
     (λ (rest : In k xs). needs_held s r route xs j (step.sized sized) later k p below rest is)
     member

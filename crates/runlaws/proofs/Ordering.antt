@@ -4,6 +4,7 @@ use Rattle.std.proofs.lemmas.Bool.{cases_eq, cases_Bool, cond_both, cond-true, c
 use Rattle.layout.specs.declared.position.Position.{Position}
 use Rattle.walks.specs.Exactly.{In}
 use Rattle.walks.proofs.Found.{in_left, in_right, in_either}
+use Rattle.walks.proofs.Tables.{in_cond}
 use Rattle.field.specs.declared.device.Device.{Device}
 use Rattle.field.specs.Devices.{blank, unknown, device_ordered}
 use Rattle.field.specs.Meaning.{Meaning, with_device, ordered, order_of}
@@ -16,10 +17,6 @@ use Rattle.acts.specs.declared.act.Event.TheVariants as event
 use Rattle.acts.specs.Orders.{due, sent, Order, order_to, orders}
 use Rattle.acts.specs.Acts.{told}
 use Rattle.runlaws.proofs.Lists.{set_case}
-
-in_cond : {A : Type 0} (b : Bool) (x a : A) → In a (cond b (x ∷ []) []) → (b ≡ true) × (x ≡ a)
-in_cond true x a h = ⊎_elim (λ (e : x ≡ a). (refl, e)) (λ none. absurd none) h
-in_cond false x a h = absurd h
 
 -- each order is to the position in which its element is held
 pub orders_held : (t : Sheets) (i : Interlocking) (r : ℕ) (m : Meaning) (n : ℕ) (o : Order) → In o (orders t i r m n) → o.position ≡ (hold_of i o.element).position

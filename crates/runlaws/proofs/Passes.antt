@@ -1,7 +1,7 @@
 -- Passes over the first routes, repeated until nothing would move, come to rest; what one step keeps, they keep.
-use Rattle.std.proofs.Common.{◌≡◌, ℕ, zero, suc, ◌+◌, ◌<◌, ◌≤◌, Bool, true, false, ◌⊎◌, List, [], ◌∷◌, set, sym, refl, ap, ◌∙◌, subst, inl, inr, ⊎_elim, arith}
+use Rattle.std.proofs.Common.{◌≡◌, ℕ, zero, suc, ◌+◌, ◌<◌, ◌≤◌, Bool, true, false, cond, ◌⊎◌, List, [], ◌∷◌, set, sym, refl, ap, ◌∙◌, subst, inl, inr, ⊎_elim, arith}
 use Rattle.std.proofs.lemmas.List.{set-get_or}
-use Rattle.std.proofs.lemmas.Bool.{cases_eq, cases_Bool}
+use Rattle.std.proofs.lemmas.Bool.{cases_eq, cases_Bool, cond_both}
 use Rattle.layout.specs.Every.{every}
 use Rattle.layout.proofs.EveryTurn.{every_each, every_not}
 use Rattle.holds.specs.declared.state.RouteState.{RouteState}
@@ -31,12 +31,7 @@ all_stay stays R count ss = every (λ k. stays (at ss k) (R ss k)) count 0
 unfoldable pub until : Test → Move → Readiness → ℕ → List RouteState → ℕ → List RouteState
 until stays f R count ss zero = ss
 until stays f R count ss (suc n) =
-    elim (all_stay stays R count ss) [ true ↦ ss | false ↦ until stays f R count (passed f R ss count) n ]
-
--- one of two, by a test
-pub either_way : {S : Type 0} (P : S → Type 0) (b : Bool) (x y : S) → (b ≡ true → P x) → (b ≡ false → P y) → P (elim b [ true ↦ x | false ↦ y ])
-either_way P true x y p q = p refl
-either_way P false x y p q = q refl
+    cond (all_stay stays R count ss) ss (until stays f R count (passed f R ss count) n)
 
 -- the weight of the first n states
 total : (RouteState → ℕ) → List RouteState → ℕ → ℕ
@@ -113,7 +108,7 @@ module _ (stays : Test) (f : Move) (w : RouteState → ℕ) (small : (s : RouteS
       (λ (e : all_stay stays R count ss ≡ false). let lt = pass_less ss e in absurd (omega arith))
       (cases_Bool (all_stay stays R count ss))
   rest_within ss (suc n) light =
-      either_way (λ (u : List RouteState). all_stay stays R count u ≡ true) (all_stay stays R count ss) ss (until stays f R count (passed f R ss count) n)
+      cond_both (all_stay stays R count ss) ss (until stays f R count (passed f R ss count) n) (λ (u : List RouteState). all_stay stays R count u ≡ true)
       (λ e. e)
       (λ e. rest_within (passed f R ss count) n (let lt = pass_less ss e in omega arith))
 
@@ -135,6 +130,6 @@ module _ (f : Move) (R : Readiness) (P : List RouteState → Type 0) (count : �
   unfolding until
   until_keeps stays ss zero p = p
   until_keeps stays ss (suc n) p =
-      either_way P (all_stay stays R count ss) ss (until stays f R count (passed f R ss count) n)
+      cond_both (all_stay stays R count ss) ss (until stays f R count (passed f R ss count) n) P
       (λ e. p)
       (λ e. until_keeps stays (passed f R ss count) n (passed_keeps ss count (omega arith) p))

@@ -17,7 +17,9 @@ use Rattle.holds.specs.Aspects.{permits, shown, clears, aspect_upto, permissive}
 use Rattle.readiness.specs.Readiness.{want_met, is_free, lamp_proved, ready}
 use Rattle.readiness.specs.declared.settling.Settling.{Settling}
 use Rattle.readiness.specs.declared.settling.Settling.TheVariants.{Dropping, Raising}
-use Rattle.readiness.specs.Settling.{concerns, state_after, settle_one, pass, all_stay, passes_until, settled}
+use Rattle.readiness.proofs.Turns.{all_stay_numbered}
+use Rattle.readiness.specs.Settling.{concerns, state_after, settle_one, pass, stays, passes_until, settled}
+use Rattle.layout.specs.Every.{every}
 use Rattle.runlaws.specs.Settled.{at, with_states, ready_in, Rested}
 use Rattle.runlaws.proofs.Passes.{passed, until}
 use Rattle.runlaws.proofs.Taken.{Within, Growing, length-taking, only_taken, raising_ready}
@@ -43,7 +45,7 @@ written i r false x same = sym (ap (with_state i r) (same refl) ∙ ap (with_sta
 -- one of two, by a test, with other states
 stopped :
     (i : Interlocking) (b : Bool) (x y : Interlocking) (xs ys : List RouteState) → x ≡ with_states i xs → y ≡ with_states i ys
-    → ◌≡◌ {A = Interlocking} (elim b [ true ↦ x | false ↦ y ]) (with_states i (elim b [ true ↦ xs | false ↦ ys ]))
+    → ◌≡◌ {A = Interlocking} (elim b [ true ↦ x | false ↦ y ]) (with_states i (cond b xs ys))
 stopped i true x y xs ys ex ey = ex
 stopped i false x y xs ys ex ey = ey
 
@@ -63,11 +65,12 @@ module _ (t : Sheets) (m : Meaning) where
 
   passes_are : (w : Settling) (i : Interlocking) (n : ℕ)
       → passes_until w t m i n ≡ with_states i (until (if_left w) (state_after w) (ready_in t m i) (route_count t) i.states n)
-  unfolding passes_until until all_stay
+  unfolding passes_until until
   passes_are w i zero = refl
   passes_are w i (suc n) =
       let j = with_states i (passed (state_after w) (ready_in t m i) i.states (route_count t)) in
-      stopped i (all_stay w t m i) i (passes_until w t m (pass w t m i (route_count t)) n) i.states
+      ap (λ b. elim b [ true ↦ i | false ↦ passes_until w t m (pass w t m i (route_count t)) n ]) (all_stay_numbered w t m i)
+      ∙ stopped i (every (λ r. stays w t m i (route_sheet t r) r) (route_count t) 0) i (passes_until w t m (pass w t m i (route_count t)) n) i.states
       (until (if_left w) (state_after w) (ready_in t m i) (route_count t) j.states n)
       refl
       (ap (λ k. passes_until w t m k n) (pass_is w i (route_count t)) ∙ passes_are w j n)

@@ -1,6 +1,7 @@
 -- The law of every run, and that every accepted act leaves all settled.
-use Rattle.std.proofs.Common.{◌≡◌, ℕ, zero, suc, ◌+◌, ◌<◌, Bool, true, false, cond, not, ◌&&◌, eqb, ◌≢◌, ◌⊎◌, List, [], ◌∷◌, length, get_or, take, Some, None, Ok, Err, fold, Option, Result, sym, refl, ap, ◌∙◌, subst, inl, inr, ⊎_elim, add-one, arith}
+use Rattle.std.proofs.Common.{◌≡◌, ℕ, zero, suc, ◌+◌, Bool, true, false, cond, not, ◌&&◌, eqb, ◌≢◌, ◌⊎◌, List, [], ◌∷◌, get_or, take, Some, None, Ok, Err, fold, Option, Result, sym, refl, ap, ◌∙◌, subst, inl, inr, ⊎_elim, add-one, arith}
 use Rattle.std.proofs.lemmas.Bool.{cases_eq, or_cases, and_parts, both_ways, false≢true, true≢false, not-true, eqb-true}
+use Rattle.std.proofs.lemmas.List.Sums.{fold_more}
 use Rattle.layout.specs.Kinds.{is_signal}
 use Rattle.layout.specs.declared.position.Position.{Position}
 use Rattle.layout.specs.declared.position.Position.TheVariants as position
@@ -223,11 +224,6 @@ always P f keeps xs s p zero = p
 always P f keeps [] s p (suc n) = p
 always P f keeps (x ∷ xs) s p (suc n) = always P f keeps xs (f s x) (keeps s x p) n
 
-folded_next : {S A : Type 0} (f : S → A → S) (xs : List A) (s : S) (n : ℕ) (d : A) → n < length xs → fold f s (take (suc n) xs) ≡ f (fold f s (take n xs)) (get_or xs n d)
-folded_next f [] s n d h = absurd (omega arith)
-folded_next f (x ∷ xs) s zero d h = refl
-folded_next f (x ∷ xs) s (suc n) d h = folded_next f xs (f s x) n d (omega arith)
-
 -- every situation of a run is coherent
 pub run_coherent : (t : Sheets) → Lawful t → (m : Meaning) (acts : List Act) (n : ℕ) → Coherent t (run t m (take n acts))
 run_coherent t law m acts n = always (Coherent t) (performed t) (performed_coherent t law) acts (opened m) (opened_coherent t m) n
@@ -236,7 +232,7 @@ safe_run : (t : Sheets) → Lawful t → (m : Meaning) (acts : List Act) → Saf
 safe_run t law m acts n below =
     let s = run t m (take n acts) in
     let a = get_or acts n (act.Set 0) in
-    let next : run t m (take (n + 1) acts) ≡ performed t s a = rw add-one (folded_next (performed t) acts (opened m) n (act.Set 0) below) in
+    let next : run t m (take (n + 1) acts) ≡ performed t s a = fold_more (performed t) (opened m) acts n (act.Set 0) below in
     subst (λ x. Safe t s a x) (sym next) (safe t law s a (run_coherent t law m acts n))
 
 until_released : (t : Sheets) → Lawful t → (m : Meaning) (acts : List Act) → UntilReleased t m acts

@@ -27,12 +27,12 @@ const CLEAR: Act = Act::Clear { route: 0 };
 
 fn reported(element: u8, value: u8) -> Act {
     let event = Event::Report { element, value };
-    Act::Tell { event }
+    Act::from(event)
 }
 
 fn burning(signal: u8) -> Act {
     let event = Event::Lamp { signal, value: 1 };
-    Act::Tell { event }
+    Act::from(event)
 }
 
 /// A journal of acts.

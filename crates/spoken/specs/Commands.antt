@@ -4,7 +4,6 @@ use Rattle.std.specs.List.{find}
 use Rattle.std.specs.Option.{option_map, ok_or}
 use Rattle.std.specs.Result.{result_map_both}
 use Rattle.std.specs.Str.{bytes_eq}
-use Rattle.std.specs.Borrow.{Bor}
 use Rattle.spoken.specs.Telling.{news_word}
 use Rattle.spoken.specs.Words.{first_word_of, rest_of, number_in, two_numbers_in}
 use Rattle.spoken.specs.declared.mistake.Mistake.{Mistake}
@@ -19,6 +18,7 @@ use Rattle.spoken.specs.declared.telling.Ordering.{Ordering}
 use Rattle.spoken.specs.declared.telling.Telling.{Telling}
 use Rattle.spoken.specs.declared.telling.News.{News}
 use Rattle.spoken.specs.declared.telling.News.TheVariants as news
+use Rattle.spoken.specs.declared.understanding.Line.{Line}
 
 -- A comment begins with the sign 35, a hash.
 abbrev pub is_comment : List ℕ → Bool
@@ -28,9 +28,9 @@ is_comment word = slice_index word 0 == 35
 abbrev pub command_in : List ℕ → Option (List ℕ × List ℕ)
 command_in line = cond ((length (first_word_of line) == 0) || is_comment (first_word_of line)) None (Some (first_word_of line, rest_of line))
 
--- The bytes of two texts.
-abbrev pub both_texts : Bor (List ℕ) × Bor (List ℕ) → List ℕ × List ℕ
-both_texts texts = (texts.0.now, texts.1.now)
+-- The name and the rest, as bytes.
+abbrev pub both_texts : Line → List ℕ × List ℕ
+both_texts line = (line.name.now, line.rest.now)
 
 -- There is news of four sorts.
 abbrev pub all_news : List News
@@ -65,6 +65,10 @@ wish_of (asked.See look) = ALook look
 -- What is wished, or why the words say no wish.
 abbrev pub Wished : Type 0
 Wished = Result Wish Mistake
+
+-- What is made of an answer; a mistake stays as it is.
+abbrev pub unless_mistaken : {X Y : Type 0} → (X → Y) → Result X Mistake → Result Y Mistake
+unless_mistaken made answer = result_map_both made (λ mistake. mistake) answer
 
 -- Behind `field` stands `table` alone, or `contacts` with the digits of a picture.
 abbrev pub field_in : List ℕ → Wished
@@ -108,4 +112,4 @@ wish_in name rest =
     cond (bytes_eq name (codes "plan")) (Ok (APlan rest))
     (cond (bytes_eq name (codes "field")) (field_in rest)
     (cond (bytes_eq name (codes "tell")) (telling_in rest)
-    (cond (bytes_eq name (codes "order")) (order_in rest) (result_map_both ALook (λ mistake. mistake) (look_in name rest)))))
+    (cond (bytes_eq name (codes "order")) (order_in rest) (unless_mistaken ALook (look_in name rest)))))

@@ -117,10 +117,7 @@ mod tests {
 
     #[test]
     fn a_picture_has_all_its_bytes(rt: HostRuntime) -> Result<(), Fail> {
-        let mut digits = String::new(rt.alloc());
-        for _ in 0..104u8 {
-            digits.push_str("2A")?;
-        }
+        let mut digits = "2A".repeat(rt.alloc(), 104)?;
         assert_eq!(rt; picture_of(rt.alloc(), digits.as_str())?, [0x2A; 104]);
         digits.push_str("2A")?;
         let longer = picture_of(rt.alloc(), digits.as_str()).err();

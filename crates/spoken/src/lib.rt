@@ -1,6 +1,7 @@
 //! What the consoles read and print.
 #![tactic(auto)]
 
+pub mod answering;
 pub mod asked;
 pub mod hex;
 pub mod looking;

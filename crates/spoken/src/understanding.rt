@@ -3,8 +3,7 @@
 ghost use Rattle.std.specs.Prelude.{◌≡◌, ◌<◌, ◌==◌, length, is_ok, IfOk, IfErr, IfSome};
 ghost use Rattle.std.specs.Option.{option_map, ok_or};
 ghost use Rattle.std.specs.Str.Parse.{digits_value};
-ghost use Rattle.std.specs.Result.{result_map_both};
-ghost use Rattle.spoken.specs.Commands.{both_texts, command_in, wish_of, wish_of_work, wish_in, field_in, telling_in, order_in, look_in};
+ghost use Rattle.spoken.specs.Commands.{unless_mistaken, both_texts, command_in, wish_of, wish_of_work, wish_in, field_in, telling_in, order_in, look_in};
 ghost use Rattle.spoken.specs.Words.{number_in, two_numbers_in};
 ghost use Rattle.spoken.specs.declared.mistake.Mistake.TheVariants.{WordTooMany, WantsOneNumber, WantsTwoNumbers};
 
@@ -13,16 +12,23 @@ use crate::mistake::Mistake;
 use crate::telling::{News, Ordering, Telling};
 use crate::words::{first_word, number, two_numbers};
 
-/// The name of the command on a line, and the words after it; none where the line is empty or a comment.
-pub fn command_on<'a>(line: &'a str) -> Option<(&'a str, &'a str)>
-    ensures named { IfSome result (λ command. 0 < length command.0.now) }
+/// A line with a command: the name of the command, and the words after it.
+#[derive(Clone, Copy)]
+pub struct Line<'a> {
+    pub name: &'a str,
+    pub rest: &'a str,
+}
+
+/// The command on a line; none where the line is empty or a comment.
+pub fn command_on<'a>(line: &'a str) -> Option<Line<'a>>
+    ensures named { IfSome result (λ command. 0 < length command.name.now) }
     ensures command { option_map both_texts result ≡ command_in line.now }
 {
     let (name, rest) = first_word(line);
     if name.is_empty() || name.starts_with('#') {
         None
     } else {
-        Some((name, rest))
+        Some(Line { name, rest })
     }
 }
 
@@ -56,21 +62,23 @@ pub fn two_wanted(rest: &str) -> Result<(u8, u8), Mistake>
 }
 
 /// What a command asks for.
-pub fn asked<'a>(name: &str, rest: &'a str) -> Result<Asked<'a>, Mistake>
-    ensures { result_map_both wish_of (λ mistake. mistake) result ≡ wish_in name.now rest.now }
+pub fn asked<'a>(line: Line<'a>) -> Result<Asked<'a>, Mistake>
+    ensures { unless_mistaken wish_of result ≡ wish_in line.entry.name.now line.entry.rest.now }
 {
+    let Line { name, rest } = line;
     match name {
         "plan" => Ok(Asked::Plan(rest)),
         "field" => Ok(Asked::Field(field(rest)?)),
         "tell" => Ok(Asked::Field(telling(rest)?)),
         "order" => Ok(Asked::Field(order(rest)?)),
-        _ => Ok(Asked::See(look(name, rest)?)),
+        _ => Ok(Asked::See(look(line)?)),
     }
 }
 
-fn look(name: &str, rest: &str) -> Result<Look, Mistake>
-    ensures { result ≡ look_in name.now rest.now }
+fn look(line: Line<'_>) -> Result<Look, Mistake>
+    ensures { result ≡ look_in line.entry.name.now line.entry.rest.now }
 {
+    let Line { name, rest } = line;
     match name {
         "flanks" => Ok(Look::Flanks(one_wanted(rest)?)),
         "element" => Ok(Look::Element(one_wanted(rest)?)),
@@ -82,7 +90,7 @@ fn look(name: &str, rest: &str) -> Result<Look, Mistake>
 }
 
 fn field<'a>(rest: &'a str) -> Result<Work<'a>, Mistake>
-    ensures { result_map_both wish_of_work (λ mistake. mistake) result ≡ field_in rest.now }
+    ensures { unless_mistaken wish_of_work result ≡ field_in rest.now }
 {
     let (form, digits) = first_word(rest);
     match (form, digits.is_empty()) {
@@ -93,7 +101,7 @@ fn field<'a>(rest: &'a str) -> Result<Work<'a>, Mistake>
 }
 
 fn telling<'a>(rest: &'a str) -> Result<Work<'a>, Mistake>
-    ensures { result_map_both wish_of_work (λ mistake. mistake) result ≡ telling_in rest.now }
+    ensures { unless_mistaken wish_of_work result ≡ telling_in rest.now }
 {
     let (word, numbers) = first_word(rest);
     let news = word.parse::<News>()?;
@@ -106,7 +114,7 @@ fn telling<'a>(rest: &'a str) -> Result<Work<'a>, Mistake>
 }
 
 fn order<'a>(rest: &'a str) -> Result<Work<'a>, Mistake>
-    ensures { result_map_both wish_of_work (λ mistake. mistake) result ≡ order_in rest.now }
+    ensures { unless_mistaken wish_of_work result ≡ order_in rest.now }
 {
     let (element, position) = two_wanted(rest)?;
     Ok(Work::Order(Ordering { element, position }))

@@ -13,7 +13,7 @@ ghost use Rattle.station.specs.Protection.{protection_answer, protection_shields
 use crate::closed::ClosedStation;
 use crate::protecting::protection_on;
 use acts::act::{Act, Event};
-use acts::performing::perform;
+use acts::performing::perform_in;
 use acts::questions::{aspect, state};
 use field::field::Field;
 use flank::answers::Branch;
@@ -68,7 +68,7 @@ impl<F: Field> OpenStation<F> {
         ensures settled { SettledAfter self.old.plan.drawing }
         ensures orderless { SettlingIsExact }
     {
-        perform(self.plan.sheets(), &mut self.yard, act)
+        perform_in(self.plan.sheets(), &mut self.yard, act)
     }
 
     /// Sets a route.
@@ -96,7 +96,7 @@ impl<F: Field> OpenStation<F> {
     pub fn take(&mut self, event: Event) -> Result<(), Refusal>
         ensures { Performs F.meaning self.old self.new (Tell event) result }
     {
-        self.perform(Act::Tell { event })
+        self.perform(event.into())
     }
 
     /// The state of a route.

@@ -1,13 +1,12 @@
 -- What the words of a line ask of a console with stations. A text is the list of its bytes.
 use Rattle.std.specs.Prelude.{◌≡◌, ℕ, Option, Some, None, List, cond, codes, length, ◌==◌, Result, Ok, Err}
 use Rattle.std.specs.Option.{option_map, option_and_then, ok_or}
-use Rattle.std.specs.Result.{result_map_both}
 use Rattle.std.specs.Str.{bytes_eq}
 use Rattle.acts.specs.declared.act.Act.{Act}
 use Rattle.acts.specs.declared.act.Act.TheVariants as act
 use Rattle.acts.specs.declared.act.Event.{Event}
 use Rattle.acts.specs.declared.act.Event.TheVariants as event
-use Rattle.spoken.specs.Commands.{Wish, wish_of, wish_in}
+use Rattle.spoken.specs.Commands.{Wish, wish_of, wish_in, unless_mistaken}
 use Rattle.spoken.specs.Words.{first_word_of, rest_of, number_in, two_numbers_in}
 use Rattle.spoken.specs.declared.mistake.Mistake.{Mistake}
 use Rattle.spoken.specs.declared.mistake.Mistake.TheVariants as mistake
@@ -77,4 +76,4 @@ bidding_in name rest =
     (cond (bytes_eq name (codes "state")) (numbered_in (λ route. Answering (question.State route)) rest)
     (cond (bytes_eq name (codes "aspect")) (numbered_in (λ signal. Answering (question.Aspect signal)) rest)
     (cond (bytes_eq name (codes "protection")) (ok_or (option_map Answering (protection_in rest)) mistake.WantsOneNumberOrThree)
-    (result_map_both Usual (λ mistake. mistake) (wish_in name rest))))))))))))))
+    (unless_mistaken Usual (wish_in name rest))))))))))))))

@@ -3,10 +3,9 @@
 use crate::command::Command;
 use equipment::equipment::Equipment;
 use plan::plan::Plan;
+use spoken::answering::answer;
 use spoken::asked::Asked;
-use spoken::looking::see;
 use spoken::mistake::print_error;
-use spoken::preparing::{read_plan, work_on};
 use station::closed::ClosedStation;
 
 /// A closed station, with the bytes that its plan was read from; none where the plan is fresh.
@@ -33,9 +32,10 @@ impl ClosedSession {
         let ClosedStation { plan: _, field: _ } = station;
     }
 
-    /// Reads a plan from hexadecimal digits, and says what became of it.
-    fn read_plan(&mut self, rt: &HostRuntime, digits: &str) -> anyhow::Result<()> {
-        if let Some(bytes) = read_plan(rt, &mut self.station.plan, digits)? {
+    /// Does what every console can be asked for, prints what it did, and keeps the bytes of a plan that was accepted.
+    fn answer(&mut self, rt: &HostRuntime, asked: Asked<'_>) -> anyhow::Result<()> {
+        let ClosedStation { plan, field } = &mut self.station;
+        if let Some(bytes) = answer(rt, plan, field, asked)? {
             self.bytes = Some(bytes);
         }
         Ok(())
@@ -44,14 +44,7 @@ impl ClosedSession {
     /// Prints what a command does that leaves the station closed.
     pub fn stay(&mut self, rt: &HostRuntime, command: Command<'_>) -> anyhow::Result<()> {
         match command {
-            Command::Usual(Asked::Plan(digits)) => self.read_plan(rt, digits)?,
-            Command::Usual(Asked::Field(work)) => work_on(rt, &mut self.station.field, work)?,
-            Command::Usual(Asked::See(look)) => see(
-                rt,
-                &self.station.plan,
-                &self.station.field,
-                look,
-            )?,
+            Command::Usual(asked) => self.answer(rt, asked)?,
             Command::Open => println!(rt; "station: open")?,
             Command::Perform(_) | Command::Ask(_) | Command::Close => {
                 print_error(rt, "the station is closed")?

@@ -17,10 +17,10 @@ use understanding::understood;
 
 /// Does what a line asks for.
 fn carry_out(rt: &HostRuntime, session: Session, line: &str) -> anyhow::Result<Session> {
-    let Some((name, rest)) = command_on(line) else {
+    let Some(line) = command_on(line) else {
         return Ok(session);
     };
-    match understood(name, rest) {
+    match understood(line) {
         Ok(command) => session.carry_out(rt, command),
         Err(mistake) => session.correct(rt, mistake),
     }

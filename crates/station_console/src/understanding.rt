@@ -1,10 +1,10 @@
 //! The words of a line.
 
 ghost use Rattle.std.specs.Prelude.{◌≡◌};
-ghost use Rattle.std.specs.Result.{result_map_both};
 ghost use Rattle.acts.specs.declared.act.Act.{Act};
 ghost use Rattle.acts.specs.declared.act.Act.TheVariants.{Tell};
 ghost use Rattle.acts.specs.declared.act.Event.{Event};
+ghost use Rattle.spoken.specs.Commands.{unless_mistaken};
 ghost use Rattle.spoken.specs.Words.{number_in, two_numbers_in};
 ghost use Rattle.spoken.specs.declared.mistake.Mistake.TheVariants.{WantsOneNumber, WantsTwoNumbers};
 ghost use Rattle.station_console.specs.Commands.{Performing, Bids, bidding_of, bidding_in, alone_in, protection_in};
@@ -12,13 +12,14 @@ ghost use Rattle.station_console.specs.Commands.{Performing, Bids, bidding_of, b
 use crate::command::{Command, Question};
 use acts::act::{Act, Event};
 use spoken::mistake::Mistake;
-use spoken::understanding::{asked, one_wanted, two_wanted, wants_nothing};
+use spoken::understanding::{Line, asked, one_wanted, two_wanted, wants_nothing};
 use spoken::words::{first_word, number, two_numbers};
 
 /// What a command asks for.
-pub fn understood<'a>(name: &str, rest: &'a str) -> Result<Command<'a>, Mistake>
-    ensures { result_map_both bidding_of (λ mistake. mistake) result ≡ bidding_in name.now rest.now }
+pub fn understood<'a>(line: Line<'a>) -> Result<Command<'a>, Mistake>
+    ensures { unless_mistaken bidding_of result ≡ bidding_in line.entry.name.now line.entry.rest.now }
 {
+    let Line { name, rest } = line;
     match name {
         "open" => alone(rest, Command::Open),
         "close" => alone(rest, Command::Close),
@@ -33,13 +34,13 @@ pub fn understood<'a>(name: &str, rest: &'a str) -> Result<Command<'a>, Mistake>
         "state" => Ok(Command::Ask(Question::State(one_wanted(rest)?))),
         "aspect" => Ok(Command::Ask(Question::Aspect(one_wanted(rest)?))),
         "protection" => Ok(Command::Ask(protection(rest).ok_or(Mistake::WantsOneNumberOrThree)?)),
-        _ => Ok(Command::Usual(asked(name, rest)?)),
+        _ => Ok(Command::Usual(asked(line)?)),
     }
 }
 
 /// A command that is one word.
 fn alone<'a>(rest: &str, command: Command<'a>) -> Result<Command<'a>, Mistake>
-    ensures { result_map_both bidding_of (λ mistake. mistake) result ≡ alone_in (bidding_of command.entry) rest.now }
+    ensures { unless_mistaken bidding_of result ≡ alone_in (bidding_of command.entry) rest.now }
 {
     wants_nothing(rest)?;
     Ok(command)
@@ -61,7 +62,7 @@ fn told<'a, F: FnOnce(u8, u8) -> Event>(rest: &str, event: F) -> Result<Command<
 {
     let (number, value) = two_wanted(rest)?;
     let event = event(number, value);
-    Ok(Command::Perform(Act::Tell { event }))
+    Ok(Command::Perform(event.into()))
 }
 
 /// The protection of a route, with or without the lengths of two lists.

@@ -9,6 +9,7 @@ use field::device::{Device, blank_device, unknown_device};
 use field::field::Field;
 use field::orders::report_after_order;
 use layout::position::Position;
+use tables::table::put;
 
 impl TableField {
     /// A field of which nothing has been heard: no control, nothing blocked, dark, no orders, sections free.
@@ -47,9 +48,7 @@ impl TableField {
         ensures { (device : _) × F.post change (device_of (table_meaning self.old) element) device × (table_meaning self.new ≡ with_device (table_meaning self.old) element device) }
     {
         let device = change(self.device(element));
-        if element < 96 {
-            self.devices[element as usize] = device;
-        }
+        put(&mut self.devices, element as usize, device);
     }
 }
 
@@ -102,8 +101,6 @@ impl Field for TableField {
     }
 
     fn tell_occupation(&mut self, section: u8, occupied: bool) {
-        if section < 64 {
-            self.sections[section as usize] = occupied;
-        }
+        put(&mut self.sections, section as usize, occupied);
     }
 }

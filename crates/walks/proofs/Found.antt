@@ -53,7 +53,7 @@ module _ (es : List Element) (r : Route) (used : List Bool) (ground : Ground es 
   able_rests q a = go _ refl
     where
       go : (b : Bool) → passes false es q ≡ b → passes false es q ≡ false
-      go true e = let t = and_parts _ _ e in absurd (both_ways _ (not-true _ t.1) (able_signal es r used ground q (signal_test _ t.0) a))
+      go true e = let t = and_parts _ _ e in absurd (both_ways _ (not-true _ t.1) (able_signal (signal_test _ t.0) a))
       go false e = e
 
   counts_rests : (q : Join) → Counts es r q → passes false es q ≡ false
@@ -68,7 +68,7 @@ module _ (es : List Element) (r : Route) (used : List Bool) (ground : Ground es 
     where
       go : (m : Meeting) → Told es r q m → m ≡ Shields p
       go Ends t = absurd (t.0 p u a)
-      go (Shields s) t = ap Shields (able_place es r used ground q t.1 ∙ sym (able_place es r used ground q a))
+      go (Shields s) t = ap Shields (able_place t.1 ∙ sym (able_place a))
       go AtToe t = absurd (t.0.unable p a)
       go AtLeg t = absurd (t.0.unable p a)
 
@@ -94,7 +94,7 @@ module _ (es : List Element) (r : Route) (used : List Bool) (ground : Ground es 
   unable_passes q s a = and_from _ _ (ap is_signal s) (not_from_false _ (go _ refl))
     where
       go : (b : Bool) → is_able_signal (at es q.element) q.port ≡ b → is_able_signal (at es q.element) q.port ≡ false
-      go true e = absurd (a (signal_able es r used ground q s e))
+      go true e = absurd (a (signal_able q s e))
       go false e = e
 
   in_leg : (n : ℕ) (m : Join) (p : Position) → meets es used m ≡ AtToe → (f : Finding) → In f (walk n es used (far_end es (port m.element (leg p)))) → In f (found (suc n) es used m)
@@ -195,7 +195,7 @@ module _ (es : List Element) (r : Route) (used : List Bool) (ground : Ground es 
             let t = and_parts _ _ e in
             let s = signal_test _ t.0 in
             let leads : LeadsPast es q (onward es q) = linked es ground.sound (across q) (across_port false es ground.sound ground.few q (walk_port w) e) in
-            rw (e, along) (ih (passes_signal w s (λ a. both_ways _ (not-true _ t.1) (able_signal es r used ground q s a)) leads))
+            rw (e, along) (ih (passes_signal w s (λ a. both_ways _ (not-true _ t.1) (able_signal s a)) leads))
         go ih false e = rw (e, along) w
 
     only : (g f : Finding) → Comes es r u side (suc spare) g → In f (g ∷ []) → Comes es r u side (suc spare) f

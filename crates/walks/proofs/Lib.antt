@@ -1,7 +1,7 @@
 mod Pigeon
 pub mod Net
 mod Chain
-mod Told
+pub mod Told
 pub mod Found
 pub mod Used
 pub mod Legs

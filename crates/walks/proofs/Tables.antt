@@ -191,7 +191,7 @@ module _ (es : List Element) (r : Route) where
 
 -- a list that has an item under a condition
 module _ {A : Type 0} where
-  in_cond : (b : Bool) (x a : A) → In a (cond b (x ∷ []) []) → (b ≡ true) × (x ≡ a)
+  pub in_cond : (b : Bool) (x a : A) → In a (cond b (x ∷ []) []) → (b ≡ true) × (x ≡ a)
   in_cond true x a (inl e) = (refl, e)
   in_cond true x a (inr e) = absurd e
   in_cond false x a h = absurd h

@@ -127,6 +127,33 @@ shields_in kind.Derailer n = position.Plus
 shields_in kind.Signal n = position.Plus
 shields_in kind.PlanEnd n = position.Plus
 
+-- what is met of a point, or of a signal, that can shield
+pub able_point : {es : List Element} {r : Route} {q : Join} {p : Position} → Is kind.Point es q → Able es r q p
+    → (q.port ≢ 0) × (Behind es r q.element → ⊥) × Prefers (at es q.element).dual p × (p ≡ other_leg q.port)
+able_point i (derailer d) = cc
+able_point i (signal s m e) = cc
+able_point {q} i (point p k e f b) = ((λ z. let l = leg_is (other p) in omega arith), b, f, leg_other p q.port e)
+
+pub able_signal : {es : List Element} {r : Route} {q : Join} {p : Position} → Is kind.Signal es q → Able es r q p → is_able_signal (at es q.element) q.port ≡ true
+able_signal i (derailer d) = cc
+able_signal i (signal s m e) = and_from _ _ (test_marked _ m) (eq-eqb _ _ e)
+able_signal i (point p k e f b) = cc
+
+pub signal_able : {es : List Element} {r : Route} (q : Join) → Is kind.Signal es q → is_able_signal (at es q.element) q.port ≡ true → Able es r q position.Plus
+signal_able q k e = let t = and_parts _ _ e in signal k (marked_test _ t.0) (eqb-true _ _ t.1)
+
+-- in which position what is met shields
+pub able_place : {es : List Element} {r : Route} {q : Join} {p : Position} → Able es r q p → p ≡ shields_in (at es q.element).kind q.port
+able_place (derailer d) = rw d
+able_place (signal s m e) = rw s
+able_place {q} (point p k e f b) = rw k (leg_other p q.port e)
+
+-- the kinds that never shield
+unable_kind : {es : List Element} {r : Route} {q : Join} {p : Position} (k : Kind) → Is k es q → (code k ≡ 0) ⊎ (code k ≡ 4) → Able es r q p → ⊥
+unable_kind k i n (derailer d) = one_kind _ _ _ i d (omega arith)
+unable_kind k i n (signal s m e) = one_kind _ _ _ i s (omega arith)
+unable_kind k i n (point p t e f b) = one_kind _ _ _ i t (omega arith)
+
 module _ (es : List Element) (r : Route) (used : List Bool) (ground : Ground es r used) where
   toe_chain : (e : ℕ) → e < length es → (at es e).kind ≡ kind.Point → Chain true es (far_end es (port e 0))
   toe_chain e h k = starts (port e 0) (h, rw k (omega arith)) (ap is_signal k)
@@ -147,40 +174,6 @@ module _ (es : List Element) (r : Route) (used : List Bool) (ground : Ground es 
       let first : beyond_toe es e ≡ b.first = ap (along true es signal_ports) next ∙ along_beyond es ground.sound ground.few (subst (Chain true es) next (toe_chain e h k)) b.beyond in
       ap (λ (j : Join). get_or used j.element false) first ∙ ground.to_table _ b.uses
 
-  -- which elements can shield
-  able_kind : (q : Join) → {p : Position} → Able es r q p
-      → Is kind.Derailer es q ⊎ ((Is kind.Signal es q × (is_able_signal (at es q.element) q.port ≡ true))
-      ⊎ (Is kind.Point es q × (q.port ≢ 0) × (Behind es r q.element → ⊥) × Prefers (at es q.element).dual p × (p ≡ other_leg q.port)))
-  able_kind q (derailer d) = inl d
-  able_kind q (signal s m e) = inr (inl (s, and_from _ _ (test_marked _ m) (eq-eqb _ _ e)))
-  able_kind q (point p k e f b) = inr (inr (k, (λ z. let l = leg_is (other p) in omega arith), b, f, leg_other p q.port e))
-
-  -- in which position
-  pub able_place : (q : Join) → {p : Position} → Able es r q p → p ≡ shields_in (at es q.element).kind q.port
-  able_place q (derailer d) = rw d
-  able_place q (signal s m e) = rw s
-  able_place q (point p k e f b) = rw k (leg_other p q.port e)
-
-  -- the kinds that never shield
-  unable_kind : (q : Join) (k : Kind) → Is k es q → (code k ≡ 0) ⊎ (code k ≡ 4) → {p : Position} → Able es r q p → ⊥
-  unable_kind q k i n a =
-      ⊎_elim (λ d. one_kind _ _ _ i d (omega arith))
-      (⊎_elim (λ s. one_kind _ _ _ i s.0 (omega arith)) (λ p. one_kind _ _ _ i p.0 (omega arith))) (able_kind q a)
-
-  able_point : (q : Join) → Is kind.Point es q → {p : Position} → Able es r q p
-      → (q.port ≢ 0) × (Behind es r q.element → ⊥) × Prefers (at es q.element).dual p × (p ≡ other_leg q.port)
-  able_point q k a =
-      ⊎_elim (λ d. absurd (one_kind _ _ _ k d (omega arith)))
-      (⊎_elim (λ s. absurd (one_kind _ _ _ k s.0 (omega arith))) (λ p. (p.1, p.2, p.3, p.4))) (able_kind q a)
-
-  pub able_signal : (q : Join) → Is kind.Signal es q → {p : Position} → Able es r q p → is_able_signal (at es q.element) q.port ≡ true
-  able_signal q k a =
-      ⊎_elim (λ d. absurd (one_kind _ _ _ k d (omega arith)))
-      (⊎_elim (λ s. s.1) (λ p. absurd (one_kind _ _ _ k p.0 (omega arith)))) (able_kind q a)
-
-  pub signal_able : (q : Join) → Is kind.Signal es q → is_able_signal (at es q.element) q.port ≡ true → Able es r q position.Plus
-  signal_able q k e = let t = and_parts _ _ e in signal k (marked_test _ t.0) (eqb-true _ _ t.1)
-
   told_leg : (q : Join) → Port es q → (Uses es r q.element → ⊥) → Is kind.Point es q → q.port ≢ 0 → Told es r q (meets_leg es used q)
   told_leg q h u k n = go _ refl
     where
@@ -192,7 +185,7 @@ module _ (es : List Element) (r : Route) (used : List Bool) (ground : Ground es 
           is_point = k;
           unused = u;
           clear = λ _. b;
-          unable = λ p a. let t = able_point q k a in both_ways _ e (rw t.3 at (may_prefer t.2));
+          unable = λ p a. let t = able_point k a in both_ways _ e (rw t.3 at (may_prefer t.2));
         },
         n,
       )
@@ -200,7 +193,7 @@ module _ (es : List Element) (r : Route) (used : List Bool) (ground : Ground es 
       go : (b : Bool) → get_or used (beyond_toe es q.element).element false ≡ b → Told es r q (meets_leg es used q)
       go true e =
           let b = test_behind q.element h.0 k e in
-          rw (e, meets_leg) ((λ p _ a. (able_point q k a).1 b), λ c. c.clear n b)
+          rw (e, meets_leg) ((λ p _ a. (able_point k a).1 b), λ c. c.clear n b)
       go false e = rw (e, meets_leg) (clear (λ b. both_ways _ e (behind_test q.element h.0 k b)) _ refl)
 
   told_point : (q : Join) → Port es q → (Uses es r q.element → ⊥) → Is kind.Point es q → Told es r q (meets_kind kind.Point es used q)
@@ -209,19 +202,19 @@ module _ (es : List Element) (r : Route) (used : List Bool) (ground : Ground es 
       go : (t : Bool) → eqb q.port 0 ≡ t → Told es r q (elim t [ true ↦ AtToe | false ↦ meets_leg es used q ])
       go true e =
           let z : q.port ≡ 0 = eqb-true _ _ e in
-          (record { is_point = k; unused = u; clear = λ n. absurd (n z); unable = λ p a. (able_point q k a).0 z }, z)
+          (record { is_point = k; unused = u; clear = λ n. absurd (n z); unable = λ p a. (able_point k a).0 z }, z)
       go false e = told_leg q h u k (eqb-false _ _ e)
 
   told_kind : (q : Join) → Port es q → (Uses es r q.element → ⊥) → (k : Kind) → Is k es q → Told es r q (meets_kind k es used q)
-  told_kind q h u kind.Track k = ((λ p _ a. unable_kind q kind.Track k (inl refl) a), λ c. one_kind _ _ _ k c.is_point (omega arith))
+  told_kind q h u kind.Track k = ((λ p _ a. unable_kind kind.Track k (inl refl) a), λ c. one_kind _ _ _ k c.is_point (omega arith))
   told_kind q h u kind.Point k = told_point q h u k
   told_kind q h u kind.Derailer k = (u, derailer k)
   told_kind q h u kind.Signal k = go (is_able_signal (at es q.element) q.port) refl
     where
       go : (t : Bool) → is_able_signal (at es q.element) q.port ≡ t → Told es r q (elim t [ true ↦ Shields position.Plus | false ↦ Ends ])
       go true e = (u, signal_able q k e)
-      go false e = ((λ p _ a. both_ways _ e (able_signal q k a)), λ c. one_kind _ _ _ k c.is_point (omega arith))
-  told_kind q h u kind.PlanEnd k = ((λ p _ a. unable_kind q kind.PlanEnd k (inr refl) a), λ c. one_kind _ _ _ k c.is_point (omega arith))
+      go false e = ((λ p _ a. both_ways _ e (able_signal k a)), λ c. one_kind _ _ _ k c.is_point (omega arith))
+  told_kind q h u kind.PlanEnd k = ((λ p _ a. unable_kind kind.PlanEnd k (inr refl) a), λ c. one_kind _ _ _ k c.is_point (omega arith))
 
   pub told : (q : Join) → Port es q → Told es r q (meets es used q)
   told q h = go _ refl
