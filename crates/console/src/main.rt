@@ -1,32 +1,40 @@
 //! The console: commands on standard input, one on a line, and what each did in print.
 #![tactic(auto)]
 
+mod asking;
+mod closed_session;
+mod command;
+mod open_session;
+mod replay;
 mod session;
+mod understanding;
 
 use session::Session;
-use spoken::mistake::{Mistake, print_error};
-use spoken::understanding::{asked, command_on};
+use spoken::mistake::Mistake;
+use spoken::understanding::command_on;
 use std::io::{BufRead, BufReader};
+use understanding::understood;
 
-/// Does what a line asks for, and prints what it did.
-fn answer(rt: &HostRuntime, session: &mut Session, line: &str) -> anyhow::Result<()> {
+/// Does what a line asks for.
+fn carry_out(rt: &HostRuntime, session: Session, line: &str) -> anyhow::Result<Session> {
     let Some(line) = command_on(line) else {
-        return Ok(());
+        return Ok(session);
     };
-    match asked(line) {
-        Ok(asked) => session.answer(rt, asked)?,
-        Err(mistake) => print_error(rt, mistake)?,
+    match understood(line) {
+        Ok(command) => session.carry_out(rt, command),
+        Err(mistake) => session.correct(rt, mistake),
     }
-    Ok(())
 }
 
 fn main(rt: HostRuntime) -> anyhow::Result<()> {
+    let input = BufReader::new(rt.alloc(), rt.stdin())?;
     let mut session = Session::new();
-    for line in BufReader::new(rt.alloc(), rt.stdin())?.lines(rt.alloc()) {
-        match line {
-            Ok(text) => answer(&rt, &mut session, text.as_str())?,
-            Err(_) => print_error(&rt, Mistake::NoText)?,
-        }
+    for line in input.lines(rt.alloc()) {
+        session = match line {
+            Ok(text) => carry_out(&rt, session, text.as_str())?,
+            Err(_) => session.correct(&rt, Mistake::NoText)?,
+        };
     }
+    session.end();
     Ok(())
 }

@@ -1,4 +1,4 @@
-//! What every console does when it is asked.
+//! What is done when a plan, a field or a look at them is asked for.
 
 use crate::asked::Asked;
 use crate::looking::see;

@@ -1,4 +1,4 @@
-//! What every console can be asked for.
+//! What is asked of a closed station, or at any time.
 
 use crate::telling::{Ordering, Telling};
 

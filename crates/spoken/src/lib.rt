@@ -1,4 +1,4 @@
-//! What the consoles read and print.
+//! What the console reads and prints.
 #![tactic(auto)]
 
 pub mod answering;

@@ -1,4 +1,4 @@
--- What the words of a line ask of a console with stations. A text is the list of its bytes.
+-- What the words of a line ask of the console. A text is the list of its bytes.
 use Rattle.std.specs.Prelude.{◌≡◌, ℕ, Option, Some, None, List, cond, codes, length, ◌==◌, Result, Ok, Err}
 use Rattle.std.specs.Option.{option_map, option_and_then, ok_or}
 use Rattle.std.specs.Str.{bytes_eq}
@@ -10,12 +10,12 @@ use Rattle.spoken.specs.Commands.{Wish, wish_of, wish_in, unless_mistaken}
 use Rattle.spoken.specs.Words.{first_word_of, rest_of, number_in, two_numbers_in}
 use Rattle.spoken.specs.declared.mistake.Mistake.{Mistake}
 use Rattle.spoken.specs.declared.mistake.Mistake.TheVariants as mistake
-use Rattle.station_console.specs.declared.command.Command.{Command}
-use Rattle.station_console.specs.declared.command.Command.TheVariants as command
-use Rattle.station_console.specs.declared.command.Question.{Question}
-use Rattle.station_console.specs.declared.command.Question.TheVariants as question
+use Rattle.console.specs.declared.command.Command.{Command}
+use Rattle.console.specs.declared.command.Command.TheVariants as command
+use Rattle.console.specs.declared.command.Question.{Question}
+use Rattle.console.specs.declared.command.Question.TheVariants as question
 
--- What a line can ask for: what every console is asked for, that the station is opened or closed, an act, or an answer.
+-- What a line can ask for: what is asked of a closed station or at any time, that the station is opened or closed, an act, or an answer.
 pub data Bidding : Type 0 where
   Usual : Wish → Bidding
   Opening : Bidding

@@ -32,7 +32,7 @@ impl ClosedSession {
         let ClosedStation { plan: _, field: _ } = station;
     }
 
-    /// Does what every console can be asked for, prints what it did, and keeps the bytes of a plan that was accepted.
+    /// Does what a closed station is asked for, prints what it did, and keeps the bytes of a plan that was accepted.
     fn answer(&mut self, rt: &HostRuntime, asked: Asked<'_>) -> anyhow::Result<()> {
         let ClosedStation { plan, field } = &mut self.station;
         if let Some(bytes) = answer(rt, plan, field, asked)? {

@@ -7,7 +7,7 @@ ghost use Rattle.acts.specs.declared.act.Event.{Event};
 ghost use Rattle.spoken.specs.Commands.{unless_mistaken};
 ghost use Rattle.spoken.specs.Words.{number_in, two_numbers_in};
 ghost use Rattle.spoken.specs.declared.mistake.Mistake.TheVariants.{WantsOneNumber, WantsTwoNumbers};
-ghost use Rattle.station_console.specs.Commands.{Performing, Bids, bidding_of, bidding_in, alone_in, protection_in};
+ghost use Rattle.console.specs.Commands.{Performing, Bids, bidding_of, bidding_in, alone_in, protection_in};
 
 use crate::command::{Command, Question};
 use acts::act::{Act, Event};
