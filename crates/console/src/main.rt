@@ -12,7 +12,7 @@ mod understanding;
 use session::Session;
 use spoken::mistake::Mistake;
 use spoken::understanding::command_on;
-use std::io::{BufRead, BufReader};
+use std::io::{self, BufRead, BufReader, ErrorKind};
 use understanding::understood;
 
 /// Does what a line asks for.
@@ -26,14 +26,26 @@ fn carry_out(rt: &HostRuntime, session: Session, line: &str) -> anyhow::Result<S
     }
 }
 
+/// Does what the next line asks for, or says that it is no text. Where the input cannot be read any further, the session ends.
+fn go_on(rt: &HostRuntime, session: Session, line: io::Result<String>) -> anyhow::Result<Session> {
+    match line {
+        Ok(text) => carry_out(rt, session, text.as_str()),
+        Err(error) if error.kind() == ErrorKind::InvalidData => session.correct(
+            rt,
+            Mistake::NoText,
+        ),
+        Err(error) => {
+            session.end();
+            Err(error.into())
+        }
+    }
+}
+
 fn main(rt: HostRuntime) -> anyhow::Result<()> {
     let input = BufReader::new(rt.alloc(), rt.stdin())?;
     let mut session = Session::new();
     for line in input.lines(rt.alloc()) {
-        session = match line {
-            Ok(text) => carry_out(&rt, session, text.as_str())?,
-            Err(_) => session.correct(&rt, Mistake::NoText)?,
-        };
+        session = go_on(&rt, session, line)?;
     }
     session.end();
     Ok(())
