@@ -1,6 +1,6 @@
 //! Performing an act.
 
-ghost use Rattle.std.specs.Prelude.{◌≡◌};
+ghost use Rattle.std.specs.Prelude.{◌≡◌, IfErr};
 ghost use Rattle.std.specs.Result.{result_err};
 ghost use Rattle.acts.specs.Answers.{answer};
 ghost use Rattle.acts.specs.Acts.{performed};
@@ -25,7 +25,8 @@ fn set<F: Field>(
     field: &mut F,
     route: u8,
 ) -> Result<(), Refusal>
-    ensures { Steps sheets.now (situation interlocking.old (F.meaning field.old)) (situation interlocking.new (F.meaning field.new)) (Set route) result }
+    ensures step { Steps sheets.now (situation interlocking.old (F.meaning field.old)) (situation interlocking.new (F.meaning field.new)) (Set route) result }
+    ensures untouched { IfErr result (λ _. (interlocking.new ≡ interlocking.old) × (field.new ≡ field.old)) }
 {
     let route = usize::from(route);
     let sheet = sheets.route(route).ok_or(Refusal::NoSuchRoute)?;
@@ -41,7 +42,8 @@ fn clear<F: Field>(
     field: &mut F,
     route: u8,
 ) -> Result<(), Refusal>
-    ensures { Steps sheets.now (situation interlocking.old (F.meaning field.old)) (situation interlocking.new (F.meaning field.new)) (Clear route) result }
+    ensures step { Steps sheets.now (situation interlocking.old (F.meaning field.old)) (situation interlocking.new (F.meaning field.new)) (Clear route) result }
+    ensures untouched { IfErr result (λ _. (interlocking.new ≡ interlocking.old) × (field.new ≡ field.old)) }
 {
     let route = usize::from(route);
     let sheet = sheets.route(route).ok_or(Refusal::NoSuchRoute)?;
@@ -57,7 +59,8 @@ fn release<F: Field>(
     field: &F,
     route: u8,
 ) -> Result<(), Refusal>
-    ensures { Steps sheets.now (situation interlocking.old (F.meaning field.now)) (situation interlocking.new (F.meaning field.now)) (Release route) result }
+    ensures step { Steps sheets.now (situation interlocking.old (F.meaning field.now)) (situation interlocking.new (F.meaning field.now)) (Release route) result }
+    ensures untouched { IfErr result (λ _. interlocking.new ≡ interlocking.old) }
 {
     let route = usize::from(route);
     let sheet = sheets.route(route).ok_or(Refusal::NoSuchRoute)?;
@@ -72,7 +75,8 @@ fn take_event<F: Field>(
     field: &mut F,
     event: Event,
 ) -> Result<(), Refusal>
-    ensures { Steps sheets.now (situation interlocking.now (F.meaning field.old)) (situation interlocking.now (F.meaning field.new)) (Tell event) result }
+    ensures step { Steps sheets.now (situation interlocking.now (F.meaning field.old)) (situation interlocking.now (F.meaning field.new)) (Tell event) result }
+    ensures untouched { IfErr result (λ _. field.new ≡ field.old) }
 {
     may_tell(sheets, event)?;
     tell(field, event);
@@ -86,7 +90,8 @@ fn step<F: Field>(
     field: &mut F,
     act: Act,
 ) -> Result<(), Refusal>
-    ensures { Steps sheets.now (situation interlocking.old (F.meaning field.old)) (situation interlocking.new (F.meaning field.new)) act result }
+    ensures step { Steps sheets.now (situation interlocking.old (F.meaning field.old)) (situation interlocking.new (F.meaning field.new)) act result }
+    ensures untouched { IfErr result (λ _. (interlocking.new ≡ interlocking.old) × (field.new ≡ field.old)) }
 {
     match act {
         Act::Set { route } => set(sheets, interlocking, field, route),
@@ -105,6 +110,7 @@ pub fn perform<F: Field>(
 ) -> Result<(), Refusal>
     ensures answer { result_err result ≡ answer sheets.now (situation interlocking.old (F.meaning field.old)) act }
     ensures situation { situation interlocking.new (F.meaning field.new) ≡ performed sheets.now (situation interlocking.old (F.meaning field.old)) act }
+    ensures untouched { IfErr result (λ _. (interlocking.new ≡ interlocking.old) × (field.new ≡ field.old)) }
 {
     step(sheets, interlocking, field, act)?;
     settle(sheets, interlocking, field);
@@ -113,7 +119,8 @@ pub fn perform<F: Field>(
 
 /// Performs an act in a yard, or says why not.
 pub fn perform_in<F: Field>(sheets: &Sheets, yard: &mut Yard<F>, act: Act) -> Result<(), Refusal>
-    ensures { Performs sheets.now (situation_of F.meaning yard.old) (situation_of F.meaning yard.new) act result }
+    ensures performed { Performs sheets.now (situation_of F.meaning yard.old) (situation_of F.meaning yard.new) act result }
+    ensures untouched { IfErr result (λ _. yard.new ≡ yard.old) }
 {
     perform(sheets, &mut yard.interlocking, &mut yard.field, act)
 }

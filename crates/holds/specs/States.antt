@@ -1,7 +1,9 @@
 -- The states of a route and how they change.
-use Rattle.std.specs.Prelude.{ℕ, Bool, true, false, cond, ◌&&◌, List, ◌==◌, codes}
+use Rattle.std.specs.Prelude.{ℕ, Bool, true, false, List, codes}
 use Rattle.holds.specs.declared.state.RouteState.{RouteState}
 use Rattle.holds.specs.declared.state.RouteState.TheVariants as state
+use Rattle.holds.specs.declared.state.RouteAct.{RouteAct}
+use Rattle.holds.specs.declared.state.RouteAct.TheVariants as route_act
 
 -- The number of each state.
 abbrev pub state_number : RouteState → ℕ
@@ -36,10 +38,6 @@ is_clear state.Waiting = false
 is_clear state.Clear = true
 is_clear state.Dropped = false
 
--- A route that moves on from one state is in another afterwards; one in any other state stays there.
-abbrev pub moved : RouteState → RouteState → RouteState → Bool → RouteState
-moved x from to moves = cond (state_number x == state_number from && moves) to x
-
 -- A clear route that is not ready becomes dropped.
 abbrev pub falls : RouteState → Bool → RouteState
 falls state.Absent ready = state.Absent
@@ -62,3 +60,9 @@ waits_again state.Absent = state.Absent
 waits_again state.Waiting = state.Waiting
 waits_again state.Clear = state.Clear
 waits_again state.Dropped = state.Waiting
+
+-- A set makes a route wait, a clear makes a dropped one wait again, and a release makes it absent.
+abbrev pub after : RouteState → RouteAct → RouteState
+after x route_act.Set = state.Waiting
+after x route_act.Clear = waits_again x
+after x route_act.Release = state.Absent

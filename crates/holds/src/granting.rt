@@ -6,19 +6,20 @@ ghost use Rattle.holds.specs.declared.interlocking.Interlocking.{Interlocking};
 ghost use Rattle.holds.specs.Granting.{joined_by, AnswersBy, wanted_joined, needs_granted, requests_granted, taken_out, taken_up, tried_again, given_up};
 
 use crate::interlocking::Interlocking;
-use crate::state::RouteState;
+use crate::state::RouteAct;
 use layout::position::Position;
 use sheets::sheet::RouteSheet;
-use tables::table::put;
 
 impl Interlocking {
     /// The route joins the hold of an element, in a position.
     fn join(&mut self, route: usize, element: u8, position: Position)
         ensures { self.new ≡ joined_by self.old route element position }
     {
-        let mut hold = self.hold(element);
-        hold.grant(route, position);
-        put(&mut self.holds, element as usize, hold);
+        let place = usize::from(element);
+        if place < self.holds.len() {
+            let hold = &mut self.holds[place];
+            hold.grant(route, position);
+        }
     }
 
     /// The route joins the holds of the elements that it wants, one after another, each in the position that a choice gives, if any.
@@ -72,7 +73,7 @@ impl Interlocking {
     pub fn take_up(&mut self, sheet: &RouteSheet, route: usize)
         ensures { self.new ≡ taken_up sheet.now route self.old }
     {
-        self.change(route, RouteState::Waiting);
+        self.change(route, self.state(route).after(RouteAct::Set));
         self.grant_needs(sheet, route);
         self.grant_requests(sheet, route);
     }
@@ -81,7 +82,7 @@ impl Interlocking {
     pub fn try_again(&mut self, sheet: &RouteSheet, route: usize)
         ensures { self.new ≡ tried_again sheet.now route self.old }
     {
-        self.change(route, self.state(route).waits_again());
+        self.change(route, self.state(route).after(RouteAct::Clear));
         self.grant_requests(sheet, route);
     }
 
@@ -89,7 +90,7 @@ impl Interlocking {
     pub fn give_up(&mut self, route: usize)
         ensures { self.new ≡ given_up route self.old }
     {
-        self.change(route, RouteState::Absent);
+        self.change(route, self.state(route).after(RouteAct::Release));
         self.leave_all(route);
     }
 }

@@ -1,7 +1,7 @@
 //! The states of a route.
 
 ghost use Rattle.std.specs.Prelude.{◌≡◌};
-ghost use Rattle.holds.specs.States.{state_number, state_word, stands, is_waiting, is_clear, moved, falls, rises, waits_again};
+ghost use Rattle.holds.specs.States.{state_number, state_word, stands, is_waiting, is_clear, falls, rises, after};
 
 use std::fmt;
 
@@ -16,6 +16,14 @@ pub enum RouteState {
     Clear = 2,
     /// No longer ready: its start signal is at stop until the route is cleared again.
     Dropped = 3,
+}
+
+/// An accepted act on a route, as far as it concerns the route's state.
+#[derive(Clone, Copy)]
+pub(crate) enum RouteAct {
+    Set,
+    Clear,
+    Release,
 }
 
 impl RouteState {
@@ -57,32 +65,35 @@ impl RouteState {
         self == RouteState::Clear
     }
 
-    /// The state `to`, if the route is in the state `from` and moves on.
-    fn moved(self, from: RouteState, to: RouteState, moves: bool) -> RouteState
-        ensures { result ≡ moved self from to moves }
-    {
-        if self == from && moves { to } else { self }
-    }
-
     /// The state after a drop: a clear route that is not ready is dropped.
     pub fn falls(self, ready: bool) -> RouteState
         ensures { result ≡ falls self ready }
     {
-        self.moved(RouteState::Clear, RouteState::Dropped, !ready)
+        match (self, ready) {
+            (RouteState::Clear, false) => RouteState::Dropped,
+            (state, _) => state,
+        }
     }
 
     /// The state after a raise: a waiting route that is ready is clear.
     pub fn rises(self, ready: bool) -> RouteState
         ensures { result ≡ rises self ready }
     {
-        self.moved(RouteState::Waiting, RouteState::Clear, ready)
+        match (self, ready) {
+            (RouteState::Waiting, true) => RouteState::Clear,
+            (state, _) => state,
+        }
     }
 
-    /// The state after a clear: a dropped route waits again.
-    pub(crate) fn waits_again(self) -> RouteState
-        ensures { result ≡ waits_again self }
+    /// The state after an act: a set route waits, a dropped one that is cleared waits again, a released one is absent.
+    pub(crate) fn after(self, act: RouteAct) -> RouteState
+        ensures { result ≡ after self act }
     {
-        self.moved(RouteState::Dropped, RouteState::Waiting, true)
+        match (self, act) {
+            (_, RouteAct::Set) | (RouteState::Dropped, RouteAct::Clear) => RouteState::Waiting,
+            (state, RouteAct::Clear) => state,
+            (_, RouteAct::Release) => RouteState::Absent,
+        }
     }
 }
 

@@ -17,7 +17,7 @@ use plan::plan::Plan;
 pub fn perform_all<F: Field>(plan: Plan, field: F, journal: &mut [Entry]) -> OpenStation<F>
     ensures situation { situation_of F.meaning result.yard ≡ run plan.drawing (F.meaning field) (acts_in journal.old) }
     ensures answers { journal.new ≡ answered plan.drawing (opened (F.meaning field)) journal.old }
-    ensures plan { result.plan.drawing ≡ plan.drawing }
+    ensures plan { result.plan ≡ plan }
     ensures law { Law plan.drawing (F.meaning field) (acts_in journal.old) }
 {
     let mut station = ClosedStation { plan, field }.open();

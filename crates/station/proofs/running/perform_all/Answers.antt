@@ -24,14 +24,14 @@ loop-entry-preserved g c =
     let blank : Entry = record { act = act.Set 0; refusal = None } in
     let entry = get_or journal k blank in
     let done = c.perform.ensures.performed in
-    let same : now.plan.drawing ≡ d = c.loop-entry.invariant.0 in
+    let same : now.plan.drawing ≡ d = ap (λ (plan : Plan). plan.drawing) c.loop-entry.invariant.0 in
     let told : c.err-entry.result ≡ answer (sheets_of d) s entry.act =
     c.err-entry.ensures.value ∙ (done.0.0 ∙ ap (λ (x : Drawing). answer (sheets_of x) s entry.act) same) in
     let with_answer : Option Refusal → Entry = λ x. record { act = entry.act; refusal = x } in
     let is : with_answer c.err-entry.result ≡ answered_in d s entry = ap with_answer told in
     let next = done.0.1 ∙ ap (λ (x : Drawing). performed (sheets_of x) s entry.act) same in
     let below : k < length journal = search rules in (
-      done.1 ∙ same,
+      done.1 ∙ c.loop-entry.invariant.0,
       ends_more d s _ journal k blank (with_answer c.err-entry.result) below is next ∙ c.loop-entry.invariant.1,
       answers_more d s _ journal k blank (with_answer c.err-entry.result) below is next ∙ c.loop-entry.invariant.2,
     )

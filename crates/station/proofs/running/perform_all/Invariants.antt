@@ -10,6 +10,6 @@ invariant-loop-entry g l =
     let d = l.initial.station.plan.drawing in
     let s = situation_of g.F.Field.meaning l.station.yard in
     let start = situation_of g.F.Field.meaning l.initial.station.yard in
-    (l.station.plan.drawing ≡ d)
+    (l.station.plan ≡ l.initial.station.plan)
     × (ends d s (drop l.entry-index l.journal) ≡ ends d start l.initial.journal)
     × (take l.entry-index l.journal ++ answered d s (drop l.entry-index l.journal) ≡ answered d start l.initial.journal)
