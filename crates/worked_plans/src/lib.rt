@@ -1,4 +1,4 @@
-//! The plans of the worked examples and the worked runs.
+//! The plans of the worked examples.
 #![tactic(auto)]
 
 pub mod plans;
