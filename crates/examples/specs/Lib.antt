@@ -1,3 +1,5 @@
+pub mod Acts
+pub mod Asked
 pub mod Flanks
 pub mod Plans
 pub mod Readings

@@ -1,56 +1,19 @@
--- The worked runs: what the definitions say of whole runs on the small station K and on two routes in prolongation.
-use Rattle.std.specs.Prelude.{◌≡◌, ℕ, List, [], ◌∷◌, ◌++◌, Some, None, Ok, Err, Option, Result}
-use Rattle.faults.specs.declared.fault.Fault.{Fault}
-use Rattle.layout.specs.declared.drawing.Drawing.{Drawing}
+-- The worked runs: what the definitions say of whole runs on small stations.
+use Rattle.std.specs.Prelude.{◌≡◌, true, false, [], ◌∷◌, Some, None}
+use Rattle.layout.specs.declared.position.Position.TheVariants as position
 use Rattle.plan.specs.Plans.{reading}
-use Rattle.refusals.specs.declared.refusal.Refusal.{Refusal}
-use Rattle.field.specs.Meaning.{fresh_meaning}
-use Rattle.sheets.specs.Sheets.{sheets_of}
-use Rattle.holds.specs.declared.aspect.Aspect.{Aspect}
-use Rattle.holds.specs.Aspects.{aspect_number}
-use Rattle.acts.specs.declared.act.Act.{Act}
 use Rattle.acts.specs.declared.act.Act.TheVariants as act
-use Rattle.acts.specs.declared.act.Event.TheVariants as event
-use Rattle.acts.specs.Questions.{aspect_answer}
-use Rattle.safety.specs.Words.{run}
-use Rattle.examples.specs.Plans.{k, two_routes}
-
--- The number of the aspect in an answer, if there is one.
-abbrev pub number_shown : Result Aspect Refusal → Option ℕ
-number_shown (Ok aspect) = Some (aspect_number aspect)
-number_shown (Err refusal) = None
-
--- The number of the aspect that a signal of an accepted plan shows on a fresh table, after some acts.
-abbrev pub shows_after : Result Drawing Fault → List Act → ℕ → Option ℕ
-shows_after (Ok drawing) acts signal = number_shown (aspect_answer (sheets_of drawing) (run drawing fresh_meaning acts).inner signal)
-shows_after (Err fault) acts signal = None
-
--- The route of K is set, its points are reported in plus, and the lamp of its last signal burns.
-abbrev pub cleared : List Act
-cleared = act.Set 0 ∷ act.Tell (event.Report 2 0) ∷ act.Tell (event.Report 5 0) ∷ act.Tell (event.Lamp 3 1) ∷ []
-
--- Then control of the flank point is lost; it comes back; the route is cleared.
-abbrev pub lost : List Act
-lost = cleared ++ act.Tell (event.Report 5 2) ∷ []
-
-abbrev pub found_again : List Act
-found_again = lost ++ act.Tell (event.Report 5 0) ∷ []
-
-abbrev pub cleared_again : List Act
-cleared_again = found_again ++ act.Clear 0 ∷ []
-
--- Both routes are set, while the lamps of the signals 2 and 4 are dark; then the lamp of 4 burns.
-abbrev pub dark : List Act
-dark = act.Set 0 ∷ act.Set 1 ∷ []
-
-abbrev pub prolonged : List Act
-prolonged = dark ++ act.Tell (event.Lamp 4 1) ∷ []
+use Rattle.examples.specs.Acts.{cleared, lost, found_again, cleared_again, dark, prolonged, long_run, around, denied, freed, granted_late, lampless, unshielded, shielded, darkened, shunted}
+use Rattle.examples.specs.Asked.{shows_after, answers_to, state_after, held_after, orders_after, order}
+use Rattle.examples.specs.Plans.{k, two_routes, ring, overlapping, derailed, k_zeroed, k_spared, signalled}
 
 -- Once the route of K is set, its points are reported and its end lamp burns, signal 1 shows 3; lost control of the flank point brings stop.
 -- The signal stays at stop when control comes back, and shows 3 again only after a clear.
 -- With two routes in prolongation, the first is held at stop by the dark lamp of its end signal only until that signal is permissive.
-abbrev pub WorkedRuns : Type 0
-WorkedRuns =
+-- With dark lamps K's route shows 0, with a zero overlap 2, and with its end lamp spared 3.
+-- A signal at the flank shields as long as its lamp burns. A shunting route over a derailer that is off shows 1.
+abbrev pub WorkedAspects : Type 0
+WorkedAspects =
     (shows_after (reading k) cleared 1 ≡ Some 3)
     × (shows_after (reading k) lost 1 ≡ Some 0)
     × (shows_after (reading k) found_again 1 ≡ Some 0)
@@ -58,3 +21,41 @@ WorkedRuns =
     × (shows_after (reading two_routes) dark 0 ≡ Some 0)
     × (shows_after (reading two_routes) prolonged 2 ≡ Some 3)
     × (shows_after (reading two_routes) prolonged 0 ≡ Some 3)
+    × (shows_after (reading k) lampless 1 ≡ Some 0)
+    × (shows_after (reading k_zeroed) lampless 1 ≡ Some 2)
+    × (shows_after (reading k_spared) lampless 1 ≡ Some 3)
+    × (shows_after (reading signalled) unshielded 0 ≡ Some 0)
+    × (shows_after (reading signalled) shielded 0 ≡ Some 3)
+    × (shows_after (reading signalled) darkened 0 ≡ Some 0)
+    × (shows_after (reading derailed) shunted 4 ≡ Some 1)
+
+-- The acts of the long run on K get these answers.
+-- Two routes of which one begins at the last signal of the other may share the section of a point in that one's overlap, whichever is set first.
+-- A derailer that one route holds on refuses the route that needs it off, and a route on the path of a standing one is refused for its section.
+-- A set is accepted though its request is denied.
+-- On a ring two waiting routes do not start with dark lamps, and two clear ones stay clear.
+abbrev pub WorkedAnswers : Type 0
+WorkedAnswers =
+    (answers_to (reading k) long_run ≡ None ∷ None ∷ None ∷ None ∷ Some 11 ∷ None ∷ None ∷ None ∷ None ∷ Some 15 ∷ None ∷ None ∷ Some 14 ∷ Some 16 ∷ Some 16 ∷ Some 16 ∷ Some 10 ∷ Some 10 ∷ [])
+    × (answers_to (reading overlapping) (act.Set 0 ∷ act.Set 1 ∷ []) ≡ None ∷ None ∷ [])
+    × (answers_to (reading overlapping) (act.Set 1 ∷ act.Set 0 ∷ []) ≡ None ∷ None ∷ [])
+    × (answers_to (reading derailed) (act.Set 0 ∷ act.Set 1 ∷ act.Set 2 ∷ act.Set 3 ∷ []) ≡ None ∷ Some 13 ∷ Some 12 ∷ Some 10 ∷ [])
+    × (answers_to (reading derailed) granted_late ≡ None ∷ None ∷ None ∷ None ∷ [])
+    × (state_after (reading ring) dark 0 ≡ Some 1)
+    × (state_after (reading ring) dark 1 ≡ Some 1)
+    × (state_after (reading ring) around 0 ≡ Some 2)
+    × (state_after (reading ring) around 1 ≡ Some 2)
+
+-- The set of K's route orders 2 and then 5 to plus, and holds signal 1 in minus and 5 in plus; once it is released, it holds 5 no more.
+-- Where another route has the derailer off, a request of it is denied; it stays so when that route is released, and is granted, and the
+-- derailer ordered on, by a clear.
+abbrev pub WorkedHolds : Type 0
+WorkedHolds =
+    (orders_after (reading k) [] (act.Set 0) ≡ order 2 position.Plus ∷ order 5 position.Plus ∷ [])
+    × (held_after (reading k) (act.Set 0 ∷ []) 0 1 position.Minus ≡ true)
+    × (held_after (reading k) (act.Set 0 ∷ []) 0 5 position.Plus ≡ true)
+    × (held_after (reading k) long_run 0 5 position.Plus ≡ false)
+    × (held_after (reading derailed) denied 0 3 position.Plus ≡ false)
+    × (held_after (reading derailed) freed 0 3 position.Plus ≡ false)
+    × (held_after (reading derailed) granted_late 0 3 position.Plus ≡ true)
+    × (orders_after (reading derailed) freed (act.Clear 0) ≡ order 1 position.Plus ∷ order 3 position.Plus ∷ [])
