@@ -1,7 +1,9 @@
 pub mod Acts
 pub mod Asked
+pub mod FirstFaults
 pub mod Flanks
 pub mod Plans
 pub mod Readings
 pub mod Runs
+pub mod SmallStations
 pub mod Worked

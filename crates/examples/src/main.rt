@@ -5,6 +5,7 @@ mod fields;
 mod flanks;
 mod readings;
 mod runs;
+mod stations;
 
 ghost use Rattle.examples.specs.Worked.{WorkedExamples};
 
@@ -14,8 +15,9 @@ pub fn examples_hold()
 {}
 
 fn main(rt: HostRuntime) -> anyhow::Result<()> {
-    // It is proved, or this program would not be built.
+    // They are proved, or this program would not be built.
     examples_hold();
+    stations::stations_hold();
     println!(rt; "stated of the definitions: true")?;
     readings::show_all(&rt)?;
     flanks::show_all(&rt)?;
