@@ -1,7 +1,7 @@
 //! The two positions of everything that a route can hold.
 
 ghost use Rattle.std.specs.Prelude.{◌≡◌};
-ghost use Rattle.std.specs.Result.{result_ok};
+ghost use Rattle.std.specs.Option.{ok_or};
 ghost use Rattle.layout.specs.Numbers.{position_number, position_with};
 ghost use Rattle.layout.specs.Positions.{other};
 
@@ -42,7 +42,7 @@ pub struct NoPosition(pub u8);
 impl TryFrom<u8> for Position {
     type Error = NoPosition;
 
-    ghost try_from_gives = { λ number answer. result_ok answer ≡ position_with number };
+    ghost try_from_gives = { λ number answer. answer ≡ ok_or (position_with number) (record { 0 = number }) };
 
     fn try_from(number: u8) -> Result<Position, NoPosition> {
         match number {
@@ -54,8 +54,13 @@ impl TryFrom<u8> for Position {
 }
 
 impl fmt::Display for NoPosition {
+    ghost use Rattle.std.specs.Prelude.{Some, codes, decimal, ◌++◌};
+
+    ghost output = { λ error. Some (codes "no position has the number " ++ decimal error.0) };
+
     fn fmt<W: fmt::Write>(&self, f: &mut fmt::Formatter<W>) -> fmt::Result {
-        write!(f, "no position has the number {}", self.0)
+        let number = self.0;
+        write!(f, "no position has the number {number}")
     }
 }
 
