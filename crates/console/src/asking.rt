@@ -23,12 +23,16 @@ fn print_answer<T: fmt::Display + Drop>(
 }
 
 /// Prints the state of a route.
-pub fn show_state(rt: &HostRuntime, station: &OpenStation<Equipment>, route: u8) -> io::Result<()> {
+pub(crate) fn show_state(
+    rt: &HostRuntime,
+    station: &OpenStation<Equipment>,
+    route: u8,
+) -> io::Result<()> {
     print_answer(rt, "state", route, station.state(route))
 }
 
 /// Prints the aspect of a signal.
-pub fn show_aspect(
+pub(crate) fn show_aspect(
     rt: &HostRuntime,
     station: &OpenStation<Equipment>,
     signal: u8,
@@ -38,7 +42,7 @@ pub fn show_aspect(
 }
 
 /// Prints the states of all routes and the aspects of all signals of the plan.
-pub fn show_station(rt: &HostRuntime, station: &OpenStation<Equipment>) -> io::Result<()> {
+pub(crate) fn show_station(rt: &HostRuntime, station: &OpenStation<Equipment>) -> io::Result<()> {
     let drawing = station.plan().drawing();
     for (route, _) in (0..64u8).zip(drawing.routes.as_slice()) {
         show_state(rt, station, route)?;
@@ -67,7 +71,7 @@ fn print_protection(
 }
 
 /// Prints what protects a route.
-pub fn show_protection(
+pub(crate) fn show_protection(
     rt: &HostRuntime,
     station: &OpenStation<Equipment>,
     route: u8,
@@ -77,7 +81,7 @@ pub fn show_protection(
 }
 
 /// Prints the same, with lists of two lengths lent to the call.
-pub fn show_protection_lent(
+pub(crate) fn show_protection_lent(
     rt: &HostRuntime,
     station: &OpenStation<Equipment>,
     route: u8,

@@ -9,14 +9,14 @@ use spoken::mistake::print_error;
 use station::closed::ClosedStation;
 
 /// A closed station, with the bytes that its plan was read from; none where the plan is fresh.
-pub struct ClosedSession {
-    pub station: ClosedStation<Equipment>,
-    pub bytes: Option<Vec<u8>>,
+pub(crate) struct ClosedSession {
+    pub(crate) station: ClosedStation<Equipment>,
+    pub(crate) bytes: Option<Vec<u8>>,
 }
 
 impl ClosedSession {
     /// A fresh plan and a fresh table.
-    pub fn new() -> ClosedSession {
+    pub(crate) fn new() -> ClosedSession {
         ClosedSession {
             station: ClosedStation {
                 plan: Plan::fresh(),
@@ -27,7 +27,7 @@ impl ClosedSession {
     }
 
     /// Takes the station apart.
-    pub fn end(self) {
+    pub(crate) fn end(self) {
         let ClosedSession { station, bytes: _ } = self;
         let ClosedStation { plan: _, field: _ } = station;
     }
@@ -42,7 +42,7 @@ impl ClosedSession {
     }
 
     /// Prints what a command does that leaves the station closed.
-    pub fn stay(&mut self, rt: &HostRuntime, command: Command<'_>) -> anyhow::Result<()> {
+    pub(crate) fn stay(&mut self, rt: &HostRuntime, command: Command<'_>) -> anyhow::Result<()> {
         match command {
             Command::Usual(asked) => self.answer(rt, asked)?,
             Command::Open => println!(rt; "station: open")?,

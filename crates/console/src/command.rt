@@ -5,7 +5,7 @@ use spoken::asked::Asked;
 
 /// What is asked of an open station, and does not change it.
 #[derive(Clone, Copy)]
-pub enum Question {
+pub(crate) enum Question {
     /// The state of a route.
     State(u8),
     /// The aspect of a signal.
@@ -24,7 +24,7 @@ pub enum Question {
 
 /// What a line asks for.
 #[derive(Clone, Copy)]
-pub enum Command<'a> {
+pub(crate) enum Command<'a> {
     /// What is asked of a closed station, or at any time.
     Usual(Asked<'a>),
     Open,

@@ -15,16 +15,16 @@ use station::open_station::OpenStation;
 use std::alloc::Global;
 
 /// An open station, with what its acts can be performed again from: the bytes of its plan, the field at its opening, and the acts.
-pub struct OpenSession {
-    pub station: OpenStation<Equipment>,
-    pub bytes: Option<Vec<u8>>,
-    pub first_field: Equipment,
-    pub journal: Vec<Entry>,
+pub(crate) struct OpenSession {
+    pub(crate) station: OpenStation<Equipment>,
+    pub(crate) bytes: Option<Vec<u8>>,
+    pub(crate) first_field: Equipment,
+    pub(crate) journal: Vec<Entry>,
 }
 
 impl OpenSession {
     /// Opens a closed station.
-    pub fn opened(heap: Global, session: ClosedSession) -> OpenSession {
+    pub(crate) fn opened(heap: Global, session: ClosedSession) -> OpenSession {
         let ClosedSession { station, bytes } = session;
         let first_field = station.field.duplicate();
         OpenSession {
@@ -36,7 +36,7 @@ impl OpenSession {
     }
 
     /// Closes the station again.
-    pub fn closed(self) -> ClosedSession {
+    pub(crate) fn closed(self) -> ClosedSession {
         let OpenSession {
             station,
             bytes,
@@ -81,7 +81,7 @@ impl OpenSession {
     }
 
     /// Prints what a command does that leaves the station open.
-    pub fn stay(&mut self, rt: &HostRuntime, command: Command<'_>) -> anyhow::Result<()> {
+    pub(crate) fn stay(&mut self, rt: &HostRuntime, command: Command<'_>) -> anyhow::Result<()> {
         match command {
             Command::Perform(act) => self.perform(rt, act)?,
             Command::Ask(question) => self.answer(rt, question)?,

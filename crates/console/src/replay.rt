@@ -38,7 +38,7 @@ fn plan_of(bytes: Option<&Vec<u8>>) -> Plan {
 
 /// Performs the acts since the opening again, on the same plan and on what the field was at the opening, prints the answers, and says
 /// whether all came out the same.
-pub fn replay(rt: &HostRuntime, session: &OpenSession) -> anyhow::Result<()> {
+pub(crate) fn replay(rt: &HostRuntime, session: &OpenSession) -> anyhow::Result<()> {
     let mut journal = unanswered(rt.alloc(), session.journal.as_slice())?;
     let replayed = perform_all(
         plan_of(session.bytes.as_ref()),

@@ -5,18 +5,18 @@ use crate::command::Command;
 use crate::open_session::OpenSession;
 use spoken::mistake::{Mistake, print_error};
 
-pub enum Session {
+pub(crate) enum Session {
     Closed(ClosedSession),
     Open(OpenSession),
 }
 
 impl Session {
-    pub fn new() -> Session {
+    pub(crate) fn new() -> Session {
         Session::Closed(ClosedSession::new())
     }
 
     /// Takes the station apart.
-    pub fn end(self) {
+    pub(crate) fn end(self) {
         match self {
             Session::Closed(session) => session.end(),
             Session::Open(session) => session.closed().end(),
@@ -35,12 +35,16 @@ impl Session {
     }
 
     /// Says why a line is no command, and goes on.
-    pub fn correct(self, rt: &HostRuntime, mistake: Mistake) -> anyhow::Result<Session> {
+    pub(crate) fn correct(self, rt: &HostRuntime, mistake: Mistake) -> anyhow::Result<Session> {
         self.after(print_error(rt, mistake).map_err(|error| error.into()))
     }
 
     /// Does what a command asks for, prints what it did, and goes on.
-    pub fn carry_out(self, rt: &HostRuntime, command: Command<'_>) -> anyhow::Result<Session> {
+    pub(crate) fn carry_out(
+        self,
+        rt: &HostRuntime,
+        command: Command<'_>,
+    ) -> anyhow::Result<Session> {
         match self {
             Session::Closed(mut session) => {
                 let printed = session.stay(rt, command);

@@ -16,7 +16,7 @@ use spoken::understanding::{Line, asked, one_wanted, two_wanted, wants_nothing};
 use spoken::words::{first_word, number, two_numbers};
 
 /// What a command asks for.
-pub fn understood<'a>(line: Line<'a>) -> Result<Command<'a>, Mistake>
+pub(crate) fn understood<'a>(line: Line<'a>) -> Result<Command<'a>, Mistake>
     ensures { unless_mistaken bidding_of result ≡ bidding_in line.entry.name.now line.entry.rest.now }
 {
     let Line { name, rest } = line;

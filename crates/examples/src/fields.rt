@@ -19,7 +19,7 @@ fn send<F: Field>(field: &mut F, number: u8) {
 }
 
 /// How many numbers there are at which the two fields answer otherwise.
-pub fn differing() -> usize {
+pub(crate) fn differing() -> usize {
     let mut table = TableField::fresh();
     let mut picture = ContactPicture::from([0; 104]);
     for number in 0..=255u8 {

@@ -27,7 +27,7 @@ fn show(rt: &HostRuntime, what: &str, bytes: &[u8]) -> io::Result<()> {
 }
 
 /// Each station is drawn for one rule.
-pub fn show_all(rt: &HostRuntime) -> io::Result<()> {
+pub(crate) fn show_all(rt: &HostRuntime) -> io::Result<()> {
     show(rt, "K", plans::K)?;
     show(rt, "K with point 5 turned", plans::K_TURNED)?;
     show(rt, "the same with a shunting route", plans::K_SHUNTING)?;

@@ -6,7 +6,7 @@ use std::io;
 use worked_plans::plans;
 
 /// Prints what a reading answered.
-pub fn show(rt: &HostRuntime, what: &str, answer: Result<(), Fault>) -> io::Result<()> {
+pub(crate) fn show(rt: &HostRuntime, what: &str, answer: Result<(), Fault>) -> io::Result<()> {
     match answer {
         Ok(()) => println!(rt; "{what}: accepted"),
         Err(fault) => println!(rt; "{what}: {fault}"),
@@ -14,7 +14,7 @@ pub fn show(rt: &HostRuntime, what: &str, answer: Result<(), Fault>) -> io::Resu
 }
 
 /// Reads K, and bytes that are nearly K.
-pub fn show_all(rt: &HostRuntime) -> io::Result<()> {
+pub(crate) fn show_all(rt: &HostRuntime) -> io::Result<()> {
     let k = *plans::K;
     let mut plan = Plan::fresh();
     show(rt, "no bytes", plan.read(&[]))?;

@@ -117,7 +117,7 @@ fn on_two_routes(rt: &HostRuntime) -> anyhow::Result<()> {
 }
 
 /// Runs on both stations.
-pub fn show_all(rt: &HostRuntime) -> anyhow::Result<()> {
+pub(crate) fn show_all(rt: &HostRuntime) -> anyhow::Result<()> {
     on_k(rt)?;
     on_two_routes(rt)
 }

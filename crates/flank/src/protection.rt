@@ -76,14 +76,6 @@ pub fn shields(elements: &[Element], route: &Route) -> [Mark; 96]
     Search::of(elements, route).shields()
 }
 
-/// Writes the open branches of a route into the first places of a list, as far as it has room, and gives their number.
-pub fn list_branches(elements: &[Element], route: &Route, list: &mut [Branch]) -> usize
-    ensures count { result ≡ length (branches_of elements.now route.now) }
-    ensures list { list.new ≡ put_at (branches_of elements.now route.now) 0 list.old }
-{
-    Search::of(elements, route).list_branches(list)
-}
-
 /// Fills two lists with the answer to each request of a route, by element, and with its open branches, by used point and last point; gives the two numbers.
 /// Where either list is too short, both stay as they are and there is no answer.
 #[tactic(auto, using(crate::proofs::Lists::put_filled, crate::proofs::Lists::put_made))]

@@ -1,4 +1,4 @@
--- A drawing with nothing in it, and one element or route more.
+-- A drawing with nothing in it, and one element more.
 use Rattle.std.specs.Prelude.{false, [], ◌∷◌, None}
 use Rattle.bounded.specs.Lists.{empty_of, pushed}
 use Rattle.layout.specs.declared.element.Element.{Element}

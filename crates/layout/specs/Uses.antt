@@ -85,7 +85,7 @@ pub record FlankOf (es : List Element) (way : List ℕ) (e : ℕ) (p : Position)
   pub point : (at es e).kind ≡ kind.Point
   pub free : PassesBy es way at_place (leg p) → ⊥
 
--- How many points that are not able a walk may come to: three from the path of a train route, one elsewhere.
+-- How many points that count a walk out of a path may come to: three on a train route, one on a shunting route.
 abbrev pub path_reach : RouteClass → ℕ
 path_reach class.Train = 3
 path_reach class.Shunting = 1

@@ -46,7 +46,7 @@ elements_fault es demand c = first_fault (element_fault es demand c) (length es)
 abbrev pub fields_fault : List Element → Option Fault
 fields_fault es = elements_fault es (λ _ e. has_its_fields e) cause.Fields
 
--- Each join is joined back, and no two go to one element.
+-- Each join goes to a port that another element of the drawing has, and is joined back; no two of an element go to one element.
 abbrev pub joins_fault : List Element → Option Fault
 joins_fault es = elements_fault es (λ e _. are_joins_sound es e) cause.Join
 

@@ -39,7 +39,7 @@ Holds s a e p = (held_by s.inner a e ≡ true) × ((hold_of s.inner e).position 
 abbrev pub RouteUses : Drawing → ℕ → ℕ → Type 0
 RouteUses d a x = UsesSection (elements_of d) (route_of d a) x
 
--- The route b begins at the last signal of the route a, and a uses the section x in its overlap only.
+-- The route b begins at the last signal of the route a, and a has the section x not in its path: if it uses it, in its overlap only.
 pub record Excused (d : Drawing) (a b x : ℕ) : Type 0 where
   pub prolongs : EndsAtSignal d a (first_element d b)
   pub overlap_only : UsesSectionInPath (elements_of d) (route_of d a) x → ⊥

@@ -45,7 +45,7 @@ pub data Prefers : Option Dual → Position → Type 0 where
 abbrev pub Marked : Element → Type 0
 Marked e = (m : Marks) × (e.marks ≡ Some m) × (m.requested ≡ true)
 
--- What is met at the port q is able to shield in a position: a derailer in plus; a marked signal met at its front in plus;
+-- What is met at the port q, if the route does not use it, is able to shield in a position: a derailer in plus; a marked signal met at its front in plus;
 -- a point met at a leg in the position of its other leg, where it may, unless the route lies beyond its toe.
 pub data Able (es : List Element) (r : Route) (q : Join) : Position → Type 0 where
   derailer : Is kind.Derailer es q → Able es r q position.Plus
