@@ -1,8 +1,9 @@
 //! A field from a fresh table or from the bytes of a contact picture, and how it answers, takes orders and is told.
 
-ghost use Rattle.std.specs.Prelude.{◌≡◌, true, false, Some, is_some, IfSome};
-ghost use Rattle.field.specs.Meaning.{fresh_meaning};
-ghost use Rattle.contacts.specs.Picture.{bytes_mean};
+ghost use Rattle.std.specs.Prelude.{◌≡◌, true, false, Some, is_some, option_map, IfSome};
+ghost use Rattle.field.specs.Meaning.{fresh_meaning, ordered, told_report, told_block, told_lamp, told_occupation};
+ghost use Rattle.contacts.specs.Bytes.{report_put, block_put, lamp_put, byte_ordered};
+ghost use Rattle.contacts.specs.Picture.{bytes_mean, with_byte, with_section};
 ghost use Rattle.equipment.specs.Equipment.{equipment_meaning, has_contacts, picture_bytes};
 ghost use Rattle.equipment.specs.Sized.{sized};
 
@@ -94,35 +95,55 @@ impl Field for Equipment {
         }
     }
 
-    fn order(&mut self, element: u8, position: Position) {
+    fn order(&mut self, element: u8, position: Position)
+        ensures meaning { equipment_meaning self.new ≡ ordered (equipment_meaning self.old) element position }
+        ensures form { has_contacts self.new ≡ has_contacts self.old }
+        ensures bytes { picture_bytes self.new ≡ option_map (λ bytes. with_byte bytes element (λ byte. byte_ordered byte position)) (picture_bytes self.old) }
+    {
         match self {
             Equipment::Table(table) => table.order(element, position),
             Equipment::Contacts(picture) => picture.order(element, position),
         }
     }
 
-    fn tell_report(&mut self, element: u8, report: Option<Position>) {
+    fn tell_report(&mut self, element: u8, report: Option<Position>)
+        ensures meaning { equipment_meaning self.new ≡ told_report (equipment_meaning self.old) element report }
+        ensures form { has_contacts self.new ≡ has_contacts self.old }
+        ensures bytes { picture_bytes self.new ≡ option_map (λ bytes. with_byte bytes element (λ byte. report_put byte report)) (picture_bytes self.old) }
+    {
         match self {
             Equipment::Table(table) => table.tell_report(element, report),
             Equipment::Contacts(picture) => picture.tell_report(element, report),
         }
     }
 
-    fn tell_block(&mut self, element: u8, blocked: bool) {
+    fn tell_block(&mut self, element: u8, blocked: bool)
+        ensures meaning { equipment_meaning self.new ≡ told_block (equipment_meaning self.old) element blocked }
+        ensures form { has_contacts self.new ≡ has_contacts self.old }
+        ensures bytes { picture_bytes self.new ≡ option_map (λ bytes. with_byte bytes element (λ byte. block_put byte blocked)) (picture_bytes self.old) }
+    {
         match self {
             Equipment::Table(table) => table.tell_block(element, blocked),
             Equipment::Contacts(picture) => picture.tell_block(element, blocked),
         }
     }
 
-    fn tell_lamp(&mut self, element: u8, burning: bool) {
+    fn tell_lamp(&mut self, element: u8, burning: bool)
+        ensures meaning { equipment_meaning self.new ≡ told_lamp (equipment_meaning self.old) element burning }
+        ensures form { has_contacts self.new ≡ has_contacts self.old }
+        ensures bytes { picture_bytes self.new ≡ option_map (λ bytes. with_byte bytes element (λ byte. lamp_put byte burning)) (picture_bytes self.old) }
+    {
         match self {
             Equipment::Table(table) => table.tell_lamp(element, burning),
             Equipment::Contacts(picture) => picture.tell_lamp(element, burning),
         }
     }
 
-    fn tell_occupation(&mut self, section: u8, occupied: bool) {
+    fn tell_occupation(&mut self, section: u8, occupied: bool)
+        ensures meaning { equipment_meaning self.new ≡ told_occupation (equipment_meaning self.old) section occupied }
+        ensures form { has_contacts self.new ≡ has_contacts self.old }
+        ensures bytes { picture_bytes self.new ≡ option_map (λ bytes. with_section bytes section occupied) (picture_bytes self.old) }
+    {
         match self {
             Equipment::Table(table) => table.tell_occupation(section, occupied),
             Equipment::Contacts(picture) => picture.tell_occupation(section, occupied),
