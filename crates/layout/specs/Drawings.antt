@@ -1,4 +1,4 @@
--- A drawing with nothing in it, and one element more.
+-- A drawing with nothing in it, and one element or route more.
 use Rattle.std.specs.Prelude.{false, [], ◌∷◌, None}
 use Rattle.bounded.specs.Lists.{empty_of, pushed}
 use Rattle.layout.specs.declared.element.Element.{Element}
@@ -22,3 +22,7 @@ no_drawing = record { elements = empty_of no_element; routes = empty_of no_route
 -- One element more, with the next number.
 abbrev pub with_element : Drawing → Element → Drawing
 with_element d e = record { elements = pushed d.elements e; routes = d.routes }
+
+-- One route more, with the next number.
+abbrev pub with_route : Drawing → Route → Drawing
+with_route d r = record { elements = d.elements; routes = pushed d.routes r }

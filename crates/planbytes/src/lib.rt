@@ -2,6 +2,6 @@
 #![tactic(auto)]
 
 mod map;
-mod part;
 mod reader;
 pub mod reading;
+mod record;

@@ -1,17 +1,19 @@
 //! A reader that steps through bytes.
 
+ghost use Rattle.std.specs.Prelude.{◌+◌, ◌^◌, ◌<◌, length};
+
 pub(crate) mod bytes;
 pub(crate) mod elements;
 pub(crate) mod fields;
-pub(crate) mod items;
+pub(crate) mod lists;
 pub(crate) mod recorded;
 pub(crate) mod records;
 pub(crate) mod routes;
 
-use crate::part::Part;
-
-/// Steps through bytes; `rest` is what is left of them.
+/// Steps through the offered bytes: `bytes` are left of them, and the first of these stands at `position`.
 #[derive(Drop)]
 pub(crate) struct Reader<'a> {
-    rest: Part<'a>,
+    bytes: &'a [u8],
+    position: usize,
+    ghost fits: { position + length bytes.now < 2 ^ 64 },
 }

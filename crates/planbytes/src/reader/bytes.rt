@@ -1,37 +1,35 @@
 //! Single bytes: the next one, one of a range, and none left.
 
-ghost use Rattle.std.specs.Prelude.{◌≡◌};
+ghost use Rattle.std.specs.Prelude.{◌≡◌, ◌+◌, ◌^◌, ◌<◌, length};
 ghost use Rattle.std.specs.Range.{range_inclusive_start, range_inclusive_end};
 ghost use Rattle.std.specs.Result.{result_err};
 ghost use Rattle.planbytes.specs.Bytes.{byte_at, byte_in, left_over};
-ghost use Rattle.planbytes.specs.Records.{seen};
-ghost use Rattle.planbytes.specs.Took.{Took};
+ghost use Rattle.planbytes.specs.Took.{left, Took};
 
-use crate::part::Part;
 use crate::reader::Reader;
 use faults::fault::{Cause, Fault};
 use std::ops::RangeInclusive;
 
 impl<'a> Reader<'a> {
-    /// A reader at the start of a part.
-    pub(crate) fn over(part: Part<'a>) -> Reader<'a>
-        ensures { result.rest ≡ part.entry }
+    /// A reader at the start of bytes, which stand at a position of the offered ones.
+    pub(crate) fn over(bytes: &'a [u8], position: usize) -> Reader<'a>
+        requires { position + length bytes.now < 2 ^ 64 }
+        ensures { left result ≡ (bytes.now, position) }
     {
-        Reader { rest: part }
+        Reader { bytes, position }
     }
 
     /// The next byte.
     pub(crate) fn byte(&mut self) -> Result<u8, Fault>
         ensures { Took self.old self.new result byte_at }
     {
-        let Part { bytes, offset } = self.rest;
-        let (byte, rest) = bytes.split_first().ok_or(Fault {
+        let (byte, rest) = self.bytes.split_first().ok_or(Fault {
             cause: Cause::Ended,
-            place: offset,
+            place: self.position,
         })?;
-        self.rest = Part {
+        *self = Reader {
             bytes: rest,
-            offset: offset + 1,
+            position: self.position + 1,
         };
         Ok(*byte)
     }
@@ -40,7 +38,7 @@ impl<'a> Reader<'a> {
     pub(crate) fn byte_in(&mut self, range: RangeInclusive<u8>) -> Result<u8, Fault>
         ensures { Took self.old self.new result (byte_in (range_inclusive_start range) (range_inclusive_end range)) }
     {
-        let place = self.rest.offset;
+        let place = self.position;
         let byte = self.byte()?;
         // `contains` leaves out the end of a range that was iterated.
         if *range.start() <= byte && byte <= *range.end() {
@@ -55,14 +53,14 @@ impl<'a> Reader<'a> {
 
     /// All bytes are taken.
     pub(crate) fn end(&self) -> Result<(), Fault>
-        ensures { result_err result ≡ left_over (seen self.now.rest) }
+        ensures { result_err result ≡ left_over (left self.now) }
     {
-        if self.rest.bytes.is_empty() {
+        if self.bytes.is_empty() {
             return Ok(());
         }
         Err(Fault {
             cause: Cause::LeftOver,
-            place: self.rest.offset,
+            place: self.position,
         })
     }
 }

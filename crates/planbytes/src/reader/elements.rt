@@ -1,6 +1,7 @@
 //! Element records.
 
 ghost use Rattle.std.specs.Prelude.{◌≡◌};
+ghost use Rattle.layout.specs.Drawings.{with_element};
 ghost use Rattle.planbytes.specs.Fields.{element_at};
 ghost use Rattle.planbytes.specs.Records.{element_size};
 ghost use Rattle.planbytes.specs.Order.{element_in_order};
@@ -9,6 +10,7 @@ use crate::map::FieldMap;
 use crate::reader::Reader;
 use crate::reader::fields::JoinField;
 use crate::reader::recorded::Recorded;
+use crate::record::Record;
 use faults::fault::Fault;
 use layout::element::Element;
 use layout::kind::{Dual, Kind, Marks, Sort};
@@ -17,6 +19,8 @@ impl Recorded for Element {
     ghost size = { λ map _. element_size map };
 
     ghost read_at = { element_at };
+
+    ghost appended = { with_element };
 
     ghost in_order = { element_in_order };
 
@@ -29,6 +33,10 @@ impl Recorded for Element {
             + map.width(5, 1)
             + map.width(6, 1)
             + map.width(7, 1)
+    }
+
+    fn record<'a>(bytes: &'a [u8], offset: usize) -> Record<'a> {
+        Record::Element { bytes, offset }
     }
 
     fn read(reader: &mut Reader) -> Result<Element, Fault> {

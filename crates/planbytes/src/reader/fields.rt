@@ -60,7 +60,7 @@ impl<const N: usize> Field for ListField<N> {
 
     fn read(self, reader: &mut Reader) -> Result<Bounded<u8, N>, Fault> {
         let count = reader.byte_in(self.0)?;
-        reader.extended(count, Bounded::empty(0))
+        reader.numbers(count)
     }
 }
 

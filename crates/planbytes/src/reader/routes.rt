@@ -1,6 +1,7 @@
 //! Route records.
 
 ghost use Rattle.std.specs.Prelude.{◌≡◌, ◌≤◌};
+ghost use Rattle.layout.specs.Drawings.{with_route};
 ghost use Rattle.planbytes.specs.Fields.{route_at};
 ghost use Rattle.planbytes.specs.Records.{list_size, route_size};
 ghost use Rattle.planbytes.specs.Order.{route_in_order};
@@ -9,6 +10,7 @@ use crate::map::FieldMap;
 use crate::reader::Reader;
 use crate::reader::fields::ListField;
 use crate::reader::recorded::Recorded;
+use crate::record::Record;
 use faults::fault::Fault;
 use layout::route::{Route, RouteClass};
 
@@ -25,12 +27,18 @@ impl Recorded for Route {
 
     ghost read_at = { route_at };
 
+    ghost appended = { with_route };
+
     ghost in_order = { route_in_order };
 
     fn size(map: FieldMap, bytes: &[u8]) -> usize {
         let path = 1 + map.width(0, 1);
         let overlap = path + map.width(1, list_size(bytes, path));
         overlap + map.width(2, list_size(bytes, overlap)) + map.width(3, 1)
+    }
+
+    fn record<'a>(bytes: &'a [u8], offset: usize) -> Record<'a> {
+        Record::Route { bytes, offset }
     }
 
     fn read(reader: &mut Reader) -> Result<Route, Fault> {
