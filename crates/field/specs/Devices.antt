@@ -8,7 +8,7 @@ use Rattle.field.specs.declared.device.Device.{Device}
 abbrev pub unknown : Device
 unknown = record { report = None; blocked = true; burning = false; order = None }
 
--- An element of which nothing has been heard yet; also what the language reads past the end of a table.
+-- An element of which nothing has been heard yet. The definitions read it past the end of the devices too, where no answer shows it.
 abbrev pub blank : Device
 blank = record { report = None; blocked = false; burning = false; order = None }
 

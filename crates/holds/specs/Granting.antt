@@ -53,10 +53,11 @@ request_choice s i e = grantable (hold_of i e) (request_of s e)
 abbrev pub requests_granted : RouteSheet → ℕ → Interlocking → Interlocking
 requests_granted s r i = wanted_joined (request_choice s) s r i
 
--- A route leaves the holds of the first n elements.
+-- A route leaves the hold of an element.
 abbrev pub take_out : Interlocking → ℕ → ℕ → Interlocking
 take_out i r e = with_hold i e (left_by (hold_of i e) r)
 
+-- A route leaves the holds of the first n elements.
 unfoldable pub taken_out : Interlocking → ℕ → ℕ → Interlocking
 taken_out i r zero = i
 taken_out i r (suc n) = take_out (taken_out i r n) r n

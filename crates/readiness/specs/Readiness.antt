@@ -13,7 +13,7 @@ use Rattle.holds.specs.Holds.{held_in}
 use Rattle.holds.specs.Interlockings.{hold_of}
 use Rattle.holds.specs.Aspects.{permissive}
 
--- A point or derailer that the route itself needs is held by it and reported right. The start signal is only held.
+-- A point or derailer that the route itself needs is held by it and reported right. Nothing is asked here of the start signal.
 abbrev pub need_met : Kind → Interlocking → Meaning → ℕ → ℕ → Option Position → Bool
 need_met k i m r e None = true
 need_met k i m r e (Some p) = not (moves k) || (held_in (hold_of i e) r p && reports (report_of m e) p)

@@ -53,6 +53,6 @@ passes_until w t m i zero = i
 passes_until w t m i (suc n) = elim (all_stay w t m i) [ true ↦ i | false ↦ passes_until w t m (pass w t m i (route_count t)) n ]
 
 -- Clear routes are dropped until every clear route is ready, then waiting routes are raised until none of them is ready.
--- Each pass but the last drops or raises a route, so as many passes as there are routes are enough.
+-- A pass is made only where something is left to do, and then changes a route; so as many passes as there are routes are enough.
 abbrev pub settled : Sheets → Meaning → Interlocking → Interlocking
 settled t m i = passes_until Raising t m (passes_until Dropping t m i (route_count t)) (route_count t)

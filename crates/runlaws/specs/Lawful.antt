@@ -14,7 +14,7 @@ abbrev pub Excused : Sheets → ℕ → ℕ → ℕ → Type 0
 Excused t a b x = ((route_sheet t a).last_signal ≡ Some (route_sheet t b).first) × (on_path (route_sheet t a) x ≡ false)
 
 -- The elements and sections that a route is concerned with are in range and listed, and no other sections are;
--- two routes that begin at one signal both use a section that neither has in its overlap after the other.
+-- two routes that begin at one signal both use a section that is not excused between them.
 pub record Lawful (t : Sheets) : Type 0 where
   pub few : route_count t ≤ 64
   pub needed :

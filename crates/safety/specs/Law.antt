@@ -1,6 +1,6 @@
 -- The law over runs. A station is opened on a checked plan and on a field with any content, and then sets, clears, releases and events come,
--- in any number and order, refused or not. After every act, for every route a that stands, and every other route b that stands:
--- a and b are apart; while its signal is permissive, a is guarded; and a is undisturbed by the act.
+-- in any number and order, refused or not. After every act, for every route that stands: while its signal is permissive it is guarded,
+-- and the act leaves it undisturbed; every two that stand are apart.
 use Rattle.std.specs.Prelude.{◌≡◌, ℕ, ◌+◌, ◌<◌, ◌≤◌, false, ◌≢◌, ◌⊎◌, List, length, take, Some, slice_index_or}
 use Rattle.layout.specs.declared.drawing.Drawing.{Drawing}
 use Rattle.layout.specs.declared.position.Position.{Position}

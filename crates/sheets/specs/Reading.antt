@@ -15,7 +15,7 @@ use Rattle.sheets.specs.Sections.{no_use}
 use Rattle.sheets.specs.Lists.{is_used}
 use Rattle.sheets.specs.Sheets.{no_element_sheet}
 
--- What the language reads past the end of a list of sheets; never met, since each reading is within the list.
+-- What the definitions read past the end of a list of sheets; never met, since each reading is within the list.
 abbrev pub past_the_end : RouteSheet
 past_the_end = record {
   showing = showing.Shunting;
