@@ -33,7 +33,7 @@ use Rattle.runlaws.proofs.Granted.{same_self, same_true, none_true_at}
 use Rattle.runlaws.proofs.Coherent.{set_accepted, new_apart}
 use Rattle.runlaws.proofs.Runs.{starts_one, run_coherent}
 
-excuses_from : (t : Sheets) (a b x : ℕ) → Excused t a b x → excuses (route_sheet t a) (route_sheet t b) x ≡ true
+pub excuses_from : (t : Sheets) (a b x : ℕ) → Excused t a b x → excuses (route_sheet t a) (route_sheet t b) x ≡ true
 excuses_from t a b x h =
     and_from (option_eq nat_eq (route_sheet t a).last_signal (Some (route_sheet t b).first)) (not (on_path (route_sheet t a) x))
     (is_number (route_sheet t a).last_signal (route_sheet t b).first h.0)
@@ -60,7 +60,7 @@ none_true_from [] h = refl
 none_true_from (true ∷ xs) h = absurd (true≢false (h 0))
 none_true_from (false ∷ xs) h = none_true_from xs (λ k. h (suc k))
 
-fits_from : (h : Hold) (w : Option Position) → ((p : Position) → w ≡ Some p → ((q : ℕ) → contains h.routes q ≡ false) ⊎ (h.position ≡ p)) → fits_hold h w ≡ true
+pub fits_from : (h : Hold) (w : Option Position) → ((p : Position) → w ≡ Some p → ((q : ℕ) → contains h.routes q ≡ false) ⊎ (h.position ≡ p)) → fits_hold h w ≡ true
 fits_from h None f = refl
 fits_from h (Some p) f =
     ⊎_elim

@@ -55,12 +55,12 @@ pub record Coherent (t : Sheets) (s : Situation) : Type 0 where
   pub clear : (r : ℕ) → state_of s.inner r ≡ Clear → ready t s.inner s.meant r ≡ true
 
 -- opening
-all_same : {A : Type 0} (n : ℕ) (x : A) (k : ℕ) → get_or (replicate n x) k x ≡ x
+pub all_same : {A : Type 0} (n : ℕ) (x : A) (k : ℕ) → get_or (replicate n x) k x ≡ x
 all_same zero x k = refl
 all_same (suc n) x zero = refl
 all_same (suc n) x (suc k) = all_same n x k
 
-hold_idle : (e : ℕ) → hold_of idle e ≡ free_hold
+pub hold_idle : (e : ℕ) → hold_of idle e ≡ free_hold
 unfolding idle
 hold_idle e = all_same 96 free_hold e
 
@@ -141,8 +141,22 @@ no_clash t a b x h ub =
     (or_cases one two (not-false (one || two) n)))
     (and_cases (uses (route_sheet t b) x) (not (one || two)) clean)
 
+-- what an admitted route shares with a standing one is excused
+pub admitted_apart :
+    (t : Sheets) → Lawful t → (i : Interlocking) (r : ℕ) → has_route t r ≡ true → all_admit t (route_sheet t r) i ≡ true → (q x : ℕ)
+    → has_route t q ≡ true → stands (state_of i q) ≡ true → Uses t r x → Uses t q x → Excused t r q x ⊎ Excused t q r x
+admitted_apart t law i r route admit q x known st ur uq =
+    let sheet = route_sheet t r in
+    let other = route_sheet t q in
+    let admitted = every_each (λ k. admits sheet i k (route_sheet t k)) (route_count t) 0 (sym (all_admit_numbered t sheet i) ∙ admit) q (omega arith) (omega (arith, route_counts t q known)) in
+    ⊎_elim
+    (λ (n : not (stands (state_of i q)) ≡ true). absurd (both_ways (stands (state_of i q)) (not-true (stands (state_of i q)) n) st))
+    (λ (clear : apart sheet other ≡ true).
+    no_clash t r q x (list_all_each (clear_of sheet other) (used_by sheet) clear x (law.used r x route ur).1) uq)
+    (or_cases (not (stands (state_of i q))) (apart sheet other) admitted)
+
 -- answers
-passes_test : (b : Bool) (x : Option Refusal) (y : Refusal) → cond b x (Some y) ≡ None → (b ≡ true) × (x ≡ None)
+pub passes_test : (b : Bool) (x : Option Refusal) (y : Refusal) → cond b x (Some y) ≡ None → (b ≡ true) × (x ≡ None)
 passes_test true x y e = (refl, e)
 passes_test false x y e = absurd (none-some y (sym e))
 
@@ -181,7 +195,7 @@ module _ (t : Sheets) (i : Interlocking) (r : ℕ) (ok : Accepted t i r) where
   abbrev start : Interlocking
   start = with_state i r Waiting
 
-  fit_each : (k : ℕ) → In k (wanted_by (route_sheet t r)) → fits (route_sheet t r) start k ≡ true
+  pub fit_each : (k : ℕ) → In k (wanted_by (route_sheet t r)) → fits (route_sheet t r) start k ≡ true
   fit_each k h = list_all_each (fits (route_sheet t r) i) (wanted_by (route_sheet t r)) ok.fit k h
 
   pub grown_set : Grown r (with_state i r Waiting) (taken_up (route_sheet t r) r i)
@@ -193,13 +207,7 @@ module _ (t : Sheets) (i : Interlocking) (r : ℕ) (ok : Accepted t i r) where
   module _ (law : Lawful t) where
     pub new_apart :
         (q x : ℕ) → has_route t q ≡ true → stands (state_of i q) ≡ true → Uses t r x → Uses t q x → Excused t r q x ⊎ Excused t q r x
-    new_apart q x route st ur uq =
-        let admitted = every_each (λ q. admits (route_sheet t r) i q (route_sheet t q)) (route_count t) 0 (sym (all_admit_numbered t (route_sheet t r) i) ∙ ok.admit) q (omega arith) (omega (arith, route_counts t q route)) in
-        ⊎_elim
-        (λ (n : not (stands (state_of i q)) ≡ true). absurd (both_ways (stands (state_of i q)) (not-true (stands (state_of i q)) n) st))
-        (λ (clear : apart (route_sheet t r) (route_sheet t q) ≡ true).
-        no_clash t r q x (list_all_each (clear_of (route_sheet t r) (route_sheet t q)) (used_by (route_sheet t r)) clear x (law.used r x ok.route ur).1) uq)
-        (or_cases (not (stands (state_of i q))) (apart (route_sheet t r) (route_sheet t q)) admitted)
+    new_apart = admitted_apart t law i r ok.route ok.admit
 
     pub sound_set : Sound t i → Sound t (taken_up (route_sheet t r) r i)
     sound_set s =
@@ -269,7 +277,7 @@ waits_stands Waiting = refl
 waits_stands Clear = refl
 waits_stands Dropped = refl
 
-again_stands : (i : Interlocking) (r k : ℕ) → stands (at (set i.states r (waits_again (state_of i r))) k) ≡ stands (state_of i k)
+pub again_stands : (i : Interlocking) (r k : ℕ) → stands (at (set i.states r (waits_again (state_of i r))) k) ≡ stands (state_of i k)
 again_stands i r k =
     let y = waits_again (state_of i r) in
     ⊎_elim

@@ -76,7 +76,7 @@ contains_with s r q h =
     ⊎_elim (λ (o : contains (with_route s r) q ≡ contains s q). o ∙ h) (λ (o : (q ≡ r) × (contains (with_route s r) q ≡ true)). o.1)
     (set_case s.members r true false q)
 
-grown_join : (i : Interlocking) (r e : ℕ) (p : Position) → open_to (hold_of i e) p ≡ true → Grown r i (joined_by i r e p)
+pub grown_join : (i : Interlocking) (r e : ℕ) (p : Position) → open_to (hold_of i e) p ≡ true → Grown r i (joined_by i r e p)
 grown_join i r e p room =
     let new = granted (hold_of i e) r p in
     let j = with_hold i e new in
@@ -110,13 +110,13 @@ grown_need : (i : Interlocking) (r e : ℕ) (w : Option Position) → fits_hold 
 grown_need i r e None f = grown_self r i
 grown_need i r e (Some p) f = grown_join i r e p f
 
-grown_request : (i : Interlocking) (r e : ℕ) (w : Option Position) → Grown r i (joined_if_any i r e (grantable (hold_of i e) w))
+pub grown_request : (i : Interlocking) (r e : ℕ) (w : Option Position) → Grown r i (joined_if_any i r e (grantable (hold_of i e) w))
 grown_request i r e None = grown_self r i
 grown_request i r e (Some p) =
     cond_both (open_to (hold_of i e) p) (Some p) None (λ x. Grown r i (joined_if_any i r e x)) (λ t. grown_join i r e p t) (λ _. grown_self r i)
 
 -- what an element is needed for fits still, once an element is held as it is needed
-fits_still :
+pub fits_still :
     (s : RouteSheet) (i : Interlocking) (r e : ℕ) (w : Option Position) → need_of s e ≡ w
     → (k : ℕ) → fits s i k ≡ true → fits s (joined_if_any i r e w) k ≡ true
 fits_still s i r e None is k f = f
@@ -145,7 +145,7 @@ module _ (s : RouteSheet) (r : ℕ) where
       grown_then r i j (fold (joined_as (need_choice s) r) j xs) (grown_need i r x (need_of s x) (f x (inl refl)))
       (grown_needs xs j (λ k h. fits_still s i r x (need_of s x) refl k (f k (inr h))))
 
-need_held :
+pub need_held :
     (i : Interlocking) (r e : ℕ) (w : Option Position) (p : Position) → w ≡ Some p → Sized i → e < 96 → r < 64
     → (held_by (joined_if_any i r e w) r e ≡ true) × ((hold_of (joined_if_any i r e w) e).position ≡ p)
 need_held i r e None p is s below route = absurd (let z : ◌≡◌ {A = ℕ} 0 1 = cc in let no : ⊥ = omega arith in no)

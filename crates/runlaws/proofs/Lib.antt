@@ -10,3 +10,11 @@ pub mod Ordering
 pub mod Runs
 pub mod Admitted
 pub mod ReadyExact
+pub mod Standing
+pub mod Accepting
+pub mod Refused
+pub mod Shown
+pub mod Holding
+pub mod Stepped
+pub mod Sending
+pub mod Granting

@@ -41,7 +41,7 @@ use Rattle.runlaws.proofs.Coherent.{Sound, Coherent, opened_coherent, performed_
 use Rattle.runlaws.proofs.Ordering.{orders_held, order_stays, order_held, told_order}
 
 -- what readiness says
-reports_true : (o : Option Position) (p : Position) → reports o p ≡ true → o ≡ Some p
+pub reports_true : (o : Option Position) (p : Position) → reports o p ≡ true → o ≡ Some p
 reports_true None p h = absurd (false≢true h)
 reports_true (Some position.Plus) position.Plus h = refl
 reports_true (Some position.Plus) position.Minus h = absurd (false≢true h)
@@ -217,7 +217,7 @@ safe t law s a c =
           record { kept = u.0; orders = u.1; others = u.2; answers = u.3 };
     }
 
-always :
+pub always :
     {S A : Type 0} (P : S → Type 0) (f : S → A → S)
     → ((s : S) (a : A) → P s → P (f s a)) → (xs : List A) (s : S) → P s → (n : ℕ) → P (fold f s (take n xs))
 always P f keeps xs s p zero = p

@@ -4,3 +4,11 @@ pub mod PlanLaw
 pub mod SetExact
 pub mod ReadyExact
 pub mod SettledExact
+pub mod StatesExact
+pub mod AcceptExact
+pub mod RefusedExact
+pub mod Told
+pub mod AspectsExact
+pub mod HoldsExact
+pub mod OrdersExact
+pub mod GrantsExact

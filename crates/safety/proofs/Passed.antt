@@ -1,7 +1,8 @@
 -- Every point and derailer that a route uses is passed by it in some position, and its sheet needs it there.
-use Rattle.std.proofs.Common.{◌≡◌, ℕ, suc, ◌<◌, true, ◌≢◌, ◌⊎◌, List, [], length, Some, sym, ap, ◌∙◌, subst, inl, inr, ⊎_elim, arith}
+use Rattle.std.proofs.Common.{◌≡◌, ℕ, suc, ◌<◌, true, ◌≢◌, ◌⊎◌, List, [], length, Some, sym, refl, ap, ◌∙◌, subst, inl, inr, ⊎_elim, arith}
 use Rattle.layout.specs.declared.drawing.Drawing.{Drawing}
 use Rattle.layout.specs.declared.element.Element.{Element}
+use Rattle.layout.specs.declared.kind.Kind.{Kind}
 use Rattle.layout.specs.declared.kind.Kind.TheVariants as kind
 use Rattle.layout.specs.declared.position.Position.{Position}
 use Rattle.layout.specs.declared.position.Position.TheVariants as position
@@ -72,6 +73,16 @@ passes_needs es r e (over_derailer u k) = derails u k
 pub moved_moves : (es : List Element) (e : ℕ) → Moved es e → moves (at es e).kind ≡ true
 moved_moves es e (point is) = ap moves is
 moved_moves es e (derailer is) = ap moves is
+
+pub moves_moved : (es : List Element) (e : ℕ) → moves (at es e).kind ≡ true → Moved es e
+moves_moved es e m = go (at es e).kind refl m
+  where
+    go : (k : Kind) → (at es e).kind ≡ k → moves k ≡ true → Moved es e
+    go kind.Point is t = point is
+    go kind.Derailer is t = derailer is
+    go kind.Track is t = cc
+    go kind.Signal is t = cc
+    go kind.PlanEnd is t = cc
 
 module _ (d : Drawing) (sound : SoundPlan d) where
   pub used_low : (a e : ℕ) → HasRoute d a → Uses (elements_of d) (route_of d a) e → e < 96

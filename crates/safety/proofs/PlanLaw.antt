@@ -54,12 +54,12 @@ module _ (d : Drawing) (sound : SoundPlan d) where
     positions = p.positions;
   }
 
-  requested_low : (a e : ℕ) (p : Position) → HasRoute d a → Requested (elements_of d) (route_of d a) e p → e < 96
+  pub requested_low : (a e : ℕ) (p : Position) → HasRoute d a → Requested (elements_of d) (route_of d a) e p → e < 96
   requested_low a e p h q =
       (in_requests (route_marks (elements_of d) (route_of d a)) 96 e p
       ((requests_exact (elements_of d) (route_of d a) sound.elements sound.few_elements (sound.paths a h) (sound.overlaps a h) e p).0 q)).0
 
-  request_told : (a e : ℕ) (p : Position) → HasRoute d a → e < 96 → Requested (elements_of d) (route_of d a) e p
+  pub request_told : (a e : ℕ) (p : Position) → HasRoute d a → e < 96 → Requested (elements_of d) (route_of d a) e p
       → request_of (route_sheet (sheets_of d) a) e ≡ Some p
   request_told a e p h low q =
       subst (λ (s : RouteSheet). request_of s e ≡ Some p) (sym (same_sheet d sound a h)) ((sheet_requests_exact d sound a h e low p).1 q)

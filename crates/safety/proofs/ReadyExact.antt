@@ -75,7 +75,7 @@ module _ (d : Drawing) (sound : SoundPlan d) (s : Situation) (a : ℕ) (h : HasR
     request_low = ((plan_lawful d sound).requested a e p (route_has d sound a h) asked).0
 
     -- what the sheet of a route requests, the route requests
-    request_meant : Requested (elements_of d) (route_of d a) e p
+    pub request_meant : Requested (elements_of d) (route_of d a) e p
     request_meant =
         (sheet_requests_exact d sound a h e request_low p).0
         (subst (λ (t : RouteSheet). request_of t e ≡ Some p) (same_sheet d sound a h) asked)

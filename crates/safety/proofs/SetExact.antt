@@ -64,7 +64,7 @@ module _ (d : Drawing) (sound : SoundPlan d) where
       omega arith
 
   -- what a route needs, its sheet needs
-  need_told : (a e : ℕ) (p : Position) → HasRoute d a → Needs (elements_of d) (route_of d a) e p
+  pub need_told : (a e : ℕ) (p : Position) → HasRoute d a → Needs (elements_of d) (route_of d a) e p
       → need_of (route_sheet (sheets_of d) a) e ≡ Some p
   need_told a e p h n =
       subst (λ (s : RouteSheet). need_of s e ≡ Some p) (sym (same_sheet d sound a h)) ((needs_exact d sound a h e (needed_low a e p h n) p).1 n)
@@ -81,11 +81,11 @@ module _ (d : Drawing) (sound : SoundPlan d) where
       (subst (λ (s : RouteSheet). need_of s e ≡ Some p) (same_sheet d sound a h) n)
 
   -- a section that the sheet of a route uses is one of 64
-  use_low : (a x : ℕ) → HasRoute d a → over.Uses (sheets_of d) a x → x < 64
+  pub use_low : (a x : ℕ) → HasRoute d a → over.Uses (sheets_of d) a x → x < 64
   use_low a x h u = ((plan_lawful d sound).used a x (route_has d sound a h) u).0
 
   -- a section on the path of the sheet of a route is one that its path uses
-  path_meant : (a x : ℕ) → HasRoute d a → x < 64 → on_path (route_sheet (sheets_of d) a) x ≡ true
+  pub path_meant : (a x : ℕ) → HasRoute d a → x < 64 → on_path (route_sheet (sheets_of d) a) x ≡ true
       → UsesSectionInPath (elements_of d) (route_of d a) x
   path_meant a x h low t =
       (sections_exact d sound a h x low).0.0 (subst (λ (s : RouteSheet). on_path s x ≡ true) (same_sheet d sound a h) t)
@@ -101,7 +101,7 @@ module _ (d : Drawing) (sound : SoundPlan d) where
       (or_cases (use_of (sheet_at d a) x).path (use_of (sheet_at d a) x).overlap here)
 
   -- an excuse of the plan is one of its sheets
-  excuse_told : (a b x : ℕ) → HasRoute d a → HasRoute d b → x < 64 → Excused d a b x → over.Excused (sheets_of d) a b x
+  pub excuse_told : (a b x : ℕ) → HasRoute d a → HasRoute d b → x < 64 → Excused d a b x → over.Excused (sheets_of d) a b x
   excuse_told a b x ha hb low e = (
     ap (λ (s : RouteSheet). s.last_signal) (same_sheet d sound a ha)
         ∙ (((ends_exact d sound a ha).1 (first_element d b)).1 e.prolongs ∙ ap Some (sym (first_told d sound b hb))),

@@ -2,3 +2,10 @@ pub mod Words
 pub mod Law
 pub mod Setting
 pub mod Ready
+pub mod States
+pub mod Accepting
+pub mod Refused
+pub mod Signals
+pub mod Holding
+pub mod Ordering
+pub mod Granting

@@ -19,6 +19,7 @@ use Rattle.holds.specs.States.{stands}
 use Rattle.holds.specs.Interlockings.{hold_of, held_by, state_of}
 use Rattle.holds.specs.Aspects.{permits}
 use Rattle.acts.specs.declared.act.Act.{Act}
+use Rattle.acts.specs.declared.act.Act.TheVariants as act
 use Rattle.acts.specs.Situations.{Situation, opened}
 use Rattle.acts.specs.Questions.{aspect_answer}
 use Rattle.acts.specs.Acts.{performed, orders_sent}
@@ -34,6 +35,11 @@ Standing s a = stands (state_of s.inner a) ≡ true
 -- The route a holds the element e, in the position p.
 abbrev pub Holds : Situation → ℕ → ℕ → Position → Type 0
 Holds s a e p = (held_by s.inner a e ≡ true) × ((hold_of s.inner e).position ≡ p)
+
+-- An act sets or clears the route r.
+pub data SetsOrClears (r : ℕ) : Act → Type 0 where
+  sets : SetsOrClears r (act.Set r)
+  clears : SetsOrClears r (act.Clear r)
 
 -- The route a uses the section x, in its path or in its overlap.
 abbrev pub RouteUses : Drawing → ℕ → ℕ → Type 0

@@ -7,6 +7,10 @@ ghost use Rattle.acts.specs.declared.act.Act.TheVariants.{Set, Clear, Release, T
 ghost use Rattle.runlaws.specs.Settled.{SettlingIsExact};
 ghost use Rattle.safety.specs.Setting.{SetExactly, SameOnEveryField, RefusedChangesNothing};
 ghost use Rattle.safety.specs.Ready.{ReadyExactly, SettledAfter};
+ghost use Rattle.safety.specs.States.{DroppedStays};
+ghost use Rattle.safety.specs.Accepting.{ClearExactly, ReleaseExactly, EventExactly};
+ghost use Rattle.safety.specs.Refused.{SetRefusedExactly};
+ghost use Rattle.safety.specs.Granting.{GrantedBySetOrClear};
 ghost use Rattle.station.specs.Performing.{Performs};
 ghost use Rattle.station.specs.Protection.{protection_answer, protection_shields, protection_branches};
 
@@ -66,6 +70,12 @@ impl<F: Field> OpenStation<F> {
         ensures refused { RefusedChangesNothing self.old.plan.drawing }
         ensures ready { ReadyExactly self.old.plan.drawing }
         ensures settled { SettledAfter self.old.plan.drawing }
+        ensures dropped { DroppedStays self.old.plan.drawing }
+        ensures clear { ClearExactly self.old.plan.drawing }
+        ensures release { ReleaseExactly self.old.plan.drawing }
+        ensures event { EventExactly self.old.plan.drawing }
+        ensures refusals { SetRefusedExactly self.old.plan.drawing }
+        ensures granted { GrantedBySetOrClear self.old.plan.drawing }
         ensures orderless { SettlingIsExact }
     {
         perform_in(self.plan.sheets(), &mut self.yard, act)

@@ -9,6 +9,11 @@ use Rattle.acts.specs.Acts.{performed}
 use Rattle.plan.specs.declared.plan.Plan.{Plan}
 use Rattle.plan.proofs.PlansExact.{plan_is_sound}
 use Rattle.safety.proofs.PlanLaw.{plan_law}
+use Rattle.safety.proofs.StatesExact.{stands_exactly}
+use Rattle.safety.proofs.AspectsExact.{aspects_exactly}
+use Rattle.safety.proofs.HoldsExact.{holds_exactly}
+use Rattle.safety.proofs.OrdersExact.{orders_exactly}
+use Rattle.safety.proofs.GrantsExact.{grants_exactly}
 use Rattle.station.specs.declared.journal.Entry.{Entry}
 use Rattle.station.specs.Runs.{acts_in, answered_in, answered}
 use Rattle.station.proofs.Journaled.{ends_more, answers_more, answers_all}
@@ -50,3 +55,18 @@ pub returns-clause-law : goal.returns-clause-law
 returns-clause-law g c =
     let d = c.args.plan.drawing in
     plan_law d (plan_is_sound c.args.plan) (g.F.Field.meaning c.args.field) (acts_in c.args.journal.now)
+
+pub returns-clause-stands : goal.returns-clause-stands
+returns-clause-stands g c = stands_exactly c.args.plan.drawing (plan_is_sound c.args.plan)
+
+pub returns-clause-aspects : goal.returns-clause-aspects
+returns-clause-aspects g c = aspects_exactly _ (plan_is_sound c.args.plan)
+
+pub returns-clause-holds : goal.returns-clause-holds
+returns-clause-holds g c = holds_exactly _ (plan_is_sound c.args.plan)
+
+pub returns-clause-orders : goal.returns-clause-orders
+returns-clause-orders g c = orders_exactly _ (plan_is_sound c.args.plan)
+
+pub returns-clause-grants : goal.returns-clause-grants
+returns-clause-grants g c = grants_exactly _ (plan_is_sound c.args.plan)

@@ -3,6 +3,10 @@ use Rattle.runlaws.proofs.Orderless.{settling_exact}
 use Rattle.safety.proofs.SetExact.{set_exactly, same_on_every_field, refused_changes_nothing}
 use Rattle.safety.proofs.ReadyExact.{ready_exactly}
 use Rattle.safety.proofs.SettledExact.{settled_after}
+use Rattle.safety.proofs.StatesExact.{dropped_stays}
+use Rattle.safety.proofs.AcceptExact.{clear_exactly, release_exactly, event_exactly}
+use Rattle.safety.proofs.RefusedExact.{set_refused}
+use Rattle.safety.proofs.GrantsExact.{granted_by_set_or_clear}
 use Rattle.station.proofs.open_station.OpenStation.perform.Goals as goal
 
 pub returns-clause-set : goal.returns-clause-set
@@ -20,5 +24,23 @@ returns-clause-ready g c = ready_exactly _ (plan_is_sound c.args.self.now.plan)
 pub returns-clause-settled : goal.returns-clause-settled
 returns-clause-settled g c = settled_after _ (plan_is_sound c.args.self.now.plan)
 
+pub returns-clause-dropped : goal.returns-clause-dropped
+returns-clause-dropped g c = dropped_stays _ (plan_is_sound c.args.self.now.plan)
+
+pub returns-clause-clear : goal.returns-clause-clear
+returns-clause-clear g c = clear_exactly _ (plan_is_sound c.args.self.now.plan)
+
+pub returns-clause-release : goal.returns-clause-release
+returns-clause-release g c = release_exactly _ (plan_is_sound c.args.self.now.plan)
+
+pub returns-clause-event : goal.returns-clause-event
+returns-clause-event g c = event_exactly _ (plan_is_sound c.args.self.now.plan)
+
+pub returns-clause-refusals : goal.returns-clause-refusals
+returns-clause-refusals g c = set_refused _ (plan_is_sound c.args.self.now.plan)
+
 pub returns-clause-orderless : goal.returns-clause-orderless
 returns-clause-orderless g c = settling_exact
+
+pub returns-clause-granted : goal.returns-clause-granted
+returns-clause-granted g c = granted_by_set_or_clear c.args.self.now.plan.drawing
