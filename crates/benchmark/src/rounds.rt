@@ -1,66 +1,34 @@
-//! Rounds of work on the ring: in each, every place sees its routes set, reported, dropped, cleared and released.
+//! Rounds of work on a station: in each, every place sees its routes set, reported, dropped, cleared and released.
 
-use crate::stations::{PLACES, Place, place_at};
+use crate::sites::{Place, Site};
+use crate::tally::Tally;
 use acts::act::{Act, Event};
 use plan::plan::Plan;
 use station::closed::ClosedStation;
 use station::open_station::OpenStation;
-use std::fmt;
+use std::alloc::{AllocError, Global};
 use tablefield::table::TableField;
 
-/// What came of the acts: how many there were, how many of them were accepted, and the sum of all aspects that were seen.
-#[derive(Clone, Copy, Default)]
-pub(crate) struct Tally {
-    pub acts: u64,
-    pub accepted: u64,
-    pub aspects: u64,
-}
-
-impl fmt::Display for Tally {
-    ghost use Rattle.std.specs.Prelude.{Some, codes, decimal, ◌++◌};
-
-    ghost output = { λ tally. Some (codes "acts " ++ (decimal tally.acts ++ (codes ", accepted " ++ (decimal tally.accepted ++ (codes ", aspects " ++ decimal tally.aspects))))) };
-
-    fn fmt<W: fmt::Write>(&self, f: &mut fmt::Formatter<W>) -> fmt::Result {
-        let Tally {
-            acts,
-            accepted,
-            aspects,
-        } = self;
-        write!(f, "acts {acts}, accepted {accepted}, aspects {aspects}")
+impl Place {
+    /// The routes of a place take turns.
+    fn route(&self, turn: u32) -> u8 {
+        let count = u32::from(self.last_route.saturating_sub(self.first_route)) + 1;
+        self.first_route.saturating_add((turn % count) as u8)
     }
 }
 
-/// One of the four routes of a place, and the next of them, which runs over the same point.
-#[derive(Clone, Copy)]
-struct PlaceRoute {
-    place: Place,
-    route: u8,
-    next_route: u8,
-}
-
-impl PlaceRoute {
-    fn of(number: u8, which: u8) -> PlaceRoute {
-        let first = (number % PLACES) * 4;
-        PlaceRoute {
-            place: place_at(number),
-            route: first + which % 4,
-            next_route: first + (which % 4 + 1) % 4,
-        }
-    }
-}
-
-/// A station at work, and its tally.
+/// A station at work, and what came of it so far.
 struct Bench {
+    site: Site,
     station: OpenStation<TableField>,
     tally: Tally,
 }
 
 impl Bench {
     fn act(&mut self, act: Act) {
-        self.tally.acts = self.tally.acts.wrapping_add(1);
-        if self.station.perform(act).is_ok() {
-            self.tally.accepted = self.tally.accepted.wrapping_add(1);
+        match self.station.perform(act) {
+            Ok(()) => self.tally.accept(),
+            Err(refusal) => self.tally.refuse(refusal.number()),
         }
     }
 
@@ -74,67 +42,92 @@ impl Bench {
         self.act(event.into());
     }
 
-    /// Looks at the signal of each place.
+    fn occupy(&mut self, section: u8, value: u8) {
+        let event = Event::Occupation { section, value };
+        self.act(event.into());
+    }
+
+    /// Sets a route of a place, and reports its points. The next route over the same point is refused.
+    fn set(&mut self, place: Place, turn: u32) {
+        let route = place.route(turn);
+        self.act(Act::Set { route });
+        let next_route = place.route(turn.wrapping_add(1));
+        self.act(Act::Set { route: next_route });
+        self.report(place.point, 0);
+        self.report(place.shield, 0);
+        self.light(place.lamp, 1);
+    }
+
+    /// The shielding point of a place loses its control and has it again: the route drops, and is cleared.
+    fn disturb(&mut self, place: Place, turn: u32) {
+        let route = place.route(turn);
+        self.report(place.shield, 2);
+        self.report(place.shield, 0);
+        self.act(Act::Clear { route });
+    }
+
+    /// A train passes, and the route is not released under it. Then it is, its signal goes dark, and its point is no longer reported.
+    fn release(&mut self, place: Place, turn: u32) {
+        let route = place.route(turn);
+        self.occupy(place.section, 1);
+        self.act(Act::Release { route });
+        self.occupy(place.section, 0);
+        self.act(Act::Release { route });
+        self.light(place.lamp, 0);
+        self.report(place.point, 2);
+    }
+
+    /// Sees the aspect of the signal of each place, and the states of its routes.
     fn look(&mut self) {
-        for number in 0..PLACES {
-            if let Ok(aspect) = self.station.aspect(place_at(number).signal) {
-                self.tally.aspects = self.tally.aspects.wrapping_add(u64::from(aspect.number()));
+        for number in 0..self.site.place_count() {
+            let place = self.site.place(number);
+            if let Ok(aspect) = self.station.aspect(place.signal) {
+                self.tally.see(aspect.number());
+            }
+            for route in place.first_route..=place.last_route {
+                if let Ok(state) = self.station.state(route) {
+                    self.tally.see(state.number());
+                }
             }
         }
     }
 
-    /// Sets a route of a place, and reports its points. The next route over the same point is refused.
-    fn set(&mut self, at: PlaceRoute) {
-        self.act(Act::Set { route: at.route });
-        self.act(Act::Set {
-            route: at.next_route,
-        });
-        self.report(at.place.point, 0);
-        self.report(at.place.shield, 0);
-        self.light(at.place.signal, 1);
-    }
-
-    /// The shielding point of a place loses its control and has it again: the route drops, and is cleared.
-    fn disturb(&mut self, at: PlaceRoute) {
-        self.report(at.place.shield, 2);
-        self.report(at.place.shield, 0);
-        self.act(Act::Clear { route: at.route });
-    }
-
-    /// Releases a route of a place, and darkens its signal.
-    fn release(&mut self, at: PlaceRoute) {
-        self.act(Act::Release { route: at.route });
-        self.light(at.place.signal, 0);
-    }
-
-    /// One round, with the routes of one sort.
-    fn round(&mut self, which: u8) {
-        for number in 0..PLACES {
-            self.set(PlaceRoute::of(number, which));
+    /// One step of a round, at all places in turn.
+    fn everywhere<F: Fn(&mut Bench, Place)>(&mut self, step: F)
+        requires { F.IsAlwaysCallable step }
+    {
+        for number in 0..self.site.place_count() {
+            step(self, self.site.place(number));
         }
         self.look();
-        for number in 0..PLACES {
-            self.disturb(PlaceRoute::of(number, which));
-        }
-        self.look();
-        for number in 0..PLACES {
-            self.release(PlaceRoute::of(number, which));
-        }
-        self.look();
+    }
+
+    fn round(&mut self, turn: u32) {
+        self.everywhere(|bench, place| bench.set(place, turn));
+        self.everywhere(|bench, place| bench.disturb(place, turn));
+        self.everywhere(|bench, place| bench.release(place, turn));
     }
 }
 
-/// Works a station on this plan for a number of rounds.
-pub(crate) fn worked(plan: Plan, rounds: u32) -> Tally {
+/// Works a station for a number of rounds.
+pub(crate) fn worked(heap: Global, site: Site, rounds: u32) -> Result<Tally, AllocError> {
+    let bytes = site.bytes(heap)?;
+    let mut plan = Plan::fresh();
+    let _ = plan.read(bytes.as_slice());
     let field = TableField::fresh();
     let mut bench = Bench {
+        site,
         station: ClosedStation { plan, field }.open(),
         tally: Tally::default(),
     };
-    for round in 0..rounds {
-        bench.round((round % 4) as u8);
+    for turn in 0..rounds {
+        bench.round(turn);
     }
-    let Bench { station, tally } = bench;
+    let Bench {
+        site: _,
+        station,
+        tally,
+    } = bench;
     let ClosedStation { plan: _, field: _ } = station.close();
-    tally
+    Ok(tally)
 }

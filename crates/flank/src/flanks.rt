@@ -64,12 +64,12 @@ fn path_spare(class: RouteClass) -> u8
 pub fn flank_of(elements: &[Element], route: &Route, number: u8) -> Option<Flank>
     ensures { result ≡ flank_of elements.now route.now number }
 {
-    let path = route.path_elements();
-    let (first, way) = path.split_first()?;
-    let last = path.last()?;
     if !element_at(elements, number as usize).kind.is_point() {
         return None;
     }
+    let path = route.path_elements();
+    let (first, way) = path.split_first()?;
+    let last = path.last()?;
     let spare = path_spare(route.class);
     flank_in(elements, *first, way, number)
         .map(|leg| Flank { leg, spare })

@@ -1,6 +1,6 @@
 //! What protects the flanks of a route.
 
-ghost use Rattle.std.specs.Prelude.{◌≡◌, length, map};
+ghost use Rattle.std.specs.Prelude.{◌≡◌, ◌<◌, length, map};
 ghost use Rattle.flank.specs.Used.{used_table};
 ghost use Rattle.flank.specs.Flanks.{flank_of};
 ghost use Rattle.flank.specs.Protection.{flank_marks, no_marks, route_marks, marks_of, requests_of, branches_of, put_at, have_room, counts_listed, list_filled, requests_told, branches_told};
@@ -25,9 +25,14 @@ fn no_marks() -> [Mark; 96]
 
 impl Search<'_> {
     /// Marks what the walks out of the flank of an element find, if it has one.
+    #[tactic(auto, using(crate::proofs::Unused::unused_marks))]
     fn mark_flank(&self, element: u8, marked: &mut [Mark])
+        requires { element < 96 }
         ensures { marked.new ≡ flank_marks self.now.elements.now (used_table self.now.elements.now self.now.route.now) element (flank_of self.now.elements.now self.now.route.now element) marked.old }
     {
+        if !self.is_used(element) {
+            return;
+        }
         if let Some(flank) = flank_of(self.elements, self.route, element) {
             let from = beyond_leg(self.elements, element, flank.leg);
             self.walk(from, flank.spare, marked);
@@ -48,6 +53,7 @@ impl Search<'_> {
 
     /// The table of what the walks out of the flank of one element find.
     fn marks_of(&self, element: u8) -> [Mark; 96]
+        requires { element < 96 }
         ensures { result ≡ marks_of self.now.elements.now self.now.route.now element }
     {
         let mut marked = no_marks();

@@ -1,9 +1,9 @@
 //! The hold of one element.
 
 ghost use Rattle.std.specs.Prelude.{◌≡◌};
-ghost use Rattle.holds.specs.Holds.{free_hold, granted, left_by, held_in, open_to};
+ghost use Rattle.holds.specs.Holds.{granted, left_by, held_in, open_to};
 
-use crate::routes::RouteSet;
+use crate::routes::{NO_ROUTES, RouteSet};
 use layout::position::Position;
 
 /// The position in which an element is held, and the routes that hold it.
@@ -13,17 +13,13 @@ pub struct Hold {
     pub(crate) routes: RouteSet,
 }
 
-impl Hold {
-    /// A hold of nobody.
-    pub(crate) fn free() -> Hold
-        ensures { result ≡ free_hold }
-    {
-        Hold {
-            position: Position::Plus,
-            routes: RouteSet::empty(),
-        }
-    }
+/// A hold of nobody.
+pub(crate) const FREE: Hold = Hold {
+    position: Position::Plus,
+    routes: NO_ROUTES,
+};
 
+impl Hold {
     /// The route joins, in this position.
     pub(crate) fn grant(&mut self, route: usize, position: Position)
         ensures { self.new ≡ granted self.old route position }

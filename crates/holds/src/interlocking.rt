@@ -4,7 +4,7 @@ ghost use Rattle.std.specs.Prelude.{◌≡◌};
 ghost use Rattle.holds.specs.Holds.{held_in};
 ghost use Rattle.holds.specs.Interlockings.{idle, hold_of, held_by, state_of, with_state};
 
-use crate::hold::Hold;
+use crate::hold::{FREE, Hold};
 use crate::state::RouteState;
 use layout::position::Position;
 use tables::table::{at_or, put};
@@ -23,15 +23,16 @@ impl Interlocking {
         ensures { result ≡ idle }
     {
         Interlocking {
-            holds: [Hold::free(); 96],
+            holds: [FREE; 96],
             states: [RouteState::Absent; 64],
         }
     }
 
-    pub(crate) fn hold(&self, element: u8) -> Hold
-        ensures { result ≡ hold_of self.now element }
+    /// The hold of an element, lent.
+    pub(crate) fn hold(&self, element: u8) -> &Hold
+        ensures { result.now ≡ hold_of self.now element }
     {
-        at_or(&self.holds, element as usize, Hold::free())
+        self.holds.get(element as usize).unwrap_or(&FREE)
     }
 
     /// Whether the route holds the element.

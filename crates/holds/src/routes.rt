@@ -1,7 +1,7 @@
 //! Sets of routes.
 
 ghost use Rattle.std.specs.Prelude.{◌≡◌};
-ghost use Rattle.holds.specs.RouteSets.{no_routes, contains, with_route, without_route, is_empty};
+ghost use Rattle.holds.specs.RouteSets.{contains, with_route, without_route, is_empty};
 
 use tables::table::{at_or, put};
 
@@ -11,15 +11,11 @@ pub struct RouteSet {
     members: [bool; 64],
 }
 
-impl RouteSet {
-    pub(crate) fn empty() -> RouteSet
-        ensures { result ≡ no_routes }
-    {
-        RouteSet {
-            members: [false; 64],
-        }
-    }
+pub(crate) const NO_ROUTES: RouteSet = RouteSet {
+    members: [false; 64],
+};
 
+impl RouteSet {
     pub(crate) fn contains(&self, route: usize) -> bool
         ensures { result ≡ contains self.now route }
     {

@@ -9,7 +9,11 @@ use crate::element::{Element, Join};
 pub fn element_at(elements: &[Element], number: usize) -> Element
     ensures { result ≡ at elements.now number }
 {
-    elements.get(number).copied().unwrap_or_default()
+    if number < elements.len() {
+        elements[number]
+    } else {
+        Element::default()
+    }
 }
 
 impl Element {

@@ -18,7 +18,7 @@ use layout::kind::Kind;
 use layout::route::Route;
 use planbytes::reading::drawn;
 use refusals::refusal::Refusal;
-use sheets::making::sheets_of;
+use sheets::making::{sheets_of, work_out};
 use sheets::sheet::Sheets;
 
 /// A drawing that passed all checks, with its sheets.
@@ -98,7 +98,7 @@ impl Plan {
         ensures drawing { self.new.drawing ≡ drawing_after (reading bytes.now) self.old.drawing }
     {
         let drawing = checked_drawing(bytes)?;
-        self.sheets = sheets_of(&drawing);
+        work_out(&mut self.sheets, &drawing);
         self.drawing = drawing;
         Ok(())
     }

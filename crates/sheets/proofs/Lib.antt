@@ -2,3 +2,4 @@ mod Filling
 mod NumbersTurn
 mod SheetsTurn
 pub mod SomeNumber
+pub mod Unneeded

@@ -45,26 +45,36 @@ fn no_routes() -> Bounded<RouteSheet, 64>
     })
 }
 
-/// The sheets of routes, in their order.
+/// Lists the sheets of routes, in their order.
 #[tactic(auto, using(crate::proofs::SheetsTurn::sheets_more, crate::proofs::SheetsTurn::sheets_all), unfolding(crate::specs::Sheets::route_sheets))]
-fn route_sheets(elements: &[Element], routes: &[Route]) -> Bounded<RouteSheet, 64>
-    ensures { result ≡ route_sheets elements.now routes.now }
+fn list_routes(sheets: &mut Bounded<RouteSheet, 64>, elements: &[Element], routes: &[Route])
+    ensures { sheets.new ≡ route_sheets elements.now routes.now }
 {
-    let mut sheets = no_routes();
+    *sheets = no_routes();
     for route in routes {
         sheets.push(sheet_of(elements, route));
     }
-    sheets
+}
+
+/// Works out the sheets of a drawing, in the place of those that were there.
+pub fn work_out(sheets: &mut Sheets, drawing: &Drawing)
+    ensures { sheets.new ≡ sheets_of drawing.now }
+{
+    let elements = drawing.elements.as_slice();
+    sheets.elements = element_sheets(elements);
+    sheets.known = known_of(elements);
+    list_routes(&mut sheets.routes, elements, drawing.routes.as_slice());
 }
 
 /// The sheets of a drawing.
 pub fn sheets_of(drawing: &Drawing) -> Sheets
     ensures { result ≡ sheets_of drawing.now }
 {
-    let elements = drawing.elements.as_slice();
-    Sheets {
-        elements: element_sheets(elements),
-        known: known_of(elements),
-        routes: route_sheets(elements, drawing.routes.as_slice()),
-    }
+    let mut sheets = Sheets {
+        elements: [ElementSheet::default(); 96],
+        known: [false; 64],
+        routes: no_routes(),
+    };
+    work_out(&mut sheets, drawing);
+    sheets
 }

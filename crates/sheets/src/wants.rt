@@ -1,6 +1,7 @@
 //! What a route wants of each element.
 
-ghost use Rattle.std.specs.Prelude.{◌≡◌};
+ghost use Rattle.std.specs.Prelude.{◌≡◌, ◌<◌, false, slice_index_or};
+ghost use Rattle.flank.specs.Used.{used_table};
 ghost use Rattle.sheets.specs.Wants.{requested, moved_need, need_at, wants_of};
 
 use crate::sheet::Want;
@@ -31,11 +32,17 @@ fn derailer_need(kind: Kind, used: bool) -> Option<Position>
 }
 
 /// The position in which the route itself needs an element.
+#[tactic(auto, using(crate::proofs::Unneeded::unneeded))]
 fn need_at(elements: &[Element], route: &Route, used: bool, number: u8) -> Option<Position>
+    requires low { number < 96 }
+    requires used { used ≡ slice_index_or (used_table elements.now route.now) number false }
     ensures { result ≡ need_at elements.now route.now used number }
 {
     if route.path_elements().first() == Some(&number) {
         return Some(Position::Minus);
+    }
+    if !used {
+        return None;
     }
     flank_of(elements, route, number)
         .map(|flank| flank.leg.other())

@@ -6,7 +6,11 @@ ghost use Rattle.std.specs.Prelude.{◌≡◌, slice_index_or, slice_set};
 pub fn at_or<T: Copy>(table: &[T], place: usize, blank: T) -> T
     ensures { result ≡ slice_index_or table.now place blank }
 {
-    table.get(place).copied().unwrap_or(blank)
+    if place < table.len() {
+        table[place]
+    } else {
+        blank
+    }
 }
 
 /// Writes an item at a place, if the table has that place.

@@ -8,42 +8,41 @@ use std::alloc::{AllocError, Global};
 /// The number of places.
 pub(crate) const PLACES: u8 = 16;
 
-/// The numbers of the elements of a place.
+/// The numbers of the elements of a place, and of their sections.
 #[derive(Clone, Copy)]
-pub(crate) struct Place {
+pub(crate) struct Spot {
     pub signal: u8,
     pub point: u8,
     pub track: u8,
     pub side_end: u8,
     pub shield: u8,
     pub toe_end: u8,
+    pub point_section: u8,
+    pub track_section: u8,
+    pub shield_section: u8,
 }
 
 /// The place with a number; the ring begins again after the last.
-pub(crate) fn place_at(number: u8) -> Place {
+pub(crate) fn spot_at(number: u8) -> Spot {
     let first = (number % PLACES) * 6;
-    Place {
+    let first_section = (number % PLACES) * 3;
+    Spot {
         signal: first,
         point: first + 1,
         track: first + 2,
         side_end: first + 3,
         shield: first + 4,
         toe_end: first + 5,
+        point_section: first_section,
+        track_section: first_section + 1,
+        shield_section: first_section + 2,
     }
 }
 
-/// Three sections for each place: its point, its track and the shielding point.
-fn section_at(number: u8, which: u8) -> u8 {
-    (number % PLACES) * 3 + which % 3
-}
-
 fn push_elements(bytes: &mut Vec<u8>, number: u8) -> Result<(), AllocError> {
-    let before = place_at((number % PLACES) + PLACES - 1);
-    let here = place_at(number);
-    let next = place_at((number % PLACES) + 1);
-    let point_section = section_at(number, 0);
-    let track_section = section_at(number, 1);
-    let shield_section = section_at(number, 2);
+    let before = spot_at((number % PLACES) + PLACES - 1);
+    let here = spot_at(number);
+    let next = spot_at((number % PLACES) + 1);
     bytes.extend_from_slice(&[0x47, 3, before.track, 1, here.point, 0, 1])?;
     bytes.extend_from_slice(&[
         0x1F,
@@ -54,9 +53,9 @@ fn push_elements(bytes: &mut Vec<u8>, number: u8) -> Result<(), AllocError> {
         0,
         here.shield,
         2,
-        point_section,
+        here.point_section,
     ])?;
-    bytes.extend_from_slice(&[0x16, here.point, 1, next.signal, 0, track_section])?;
+    bytes.extend_from_slice(&[0x16, here.point, 1, next.signal, 0, here.track_section])?;
     bytes.extend_from_slice(&[0x03, 4, here.shield, 1])?;
     bytes.extend_from_slice(&[
         0x1F,
@@ -67,14 +66,14 @@ fn push_elements(bytes: &mut Vec<u8>, number: u8) -> Result<(), AllocError> {
         0,
         here.point,
         2,
-        shield_section,
+        here.shield_section,
     ])?;
     bytes.extend_from_slice(&[0x03, 4, here.shield, 0])
 }
 
 fn push_routes(bytes: &mut Vec<u8>, number: u8) -> Result<(), AllocError> {
-    let here = place_at(number);
-    let next = place_at((number % PLACES) + 1);
+    let here = spot_at(number);
+    let next = spot_at((number % PLACES) + 1);
     let to_track = [here.signal, here.point, here.track];
     bytes.extend_from_slice(&[0x07, 1, 4])?;
     bytes.extend_from_slice(&to_track)?;
