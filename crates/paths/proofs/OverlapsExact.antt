@@ -19,6 +19,7 @@ use Rattle.paths.specs.Following.{follows}
 use Rattle.paths.specs.Places.{are_within, are_new}
 use Rattle.paths.specs.Overlaps.{is_overlap, is_beyond, is_train, is_overlap_allowed}
 use Rattle.paths.specs.Sound.{Within, last, SoundOverlap, HasSoundPath, AllowedOverlap, no_overlap, zero_overlap, some_overlap}
+use Rattle.paths.specs.Exactly.{OverlapsExact}
 use Rattle.paths.proofs.StepsExact.{Followed, follows_sound}
 use Rattle.paths.proofs.PlacesExact.{within_sound, within_from, new_apart, new_once, new_from}
 use Rattle.paths.proofs.PathsExact.{runs_of, forward, followed_from}
@@ -116,7 +117,6 @@ allowed_from es sound r h (some_overlap path overlap c z p o s) =
     allows_at es r class.Train (Some path) (Some overlap) false c p o z
     ∙ overlap_from es sound (listed path) (listed overlap) (within (last (listed path)) far) s
 
-pub overlaps_exact : (es : List Element) (r : Route) → SoundElements es → HasSoundPath es r
-    → (is_overlap_allowed es r ≡ true → AllowedOverlap es r) × (AllowedOverlap es r → is_overlap_allowed es r ≡ true)
+pub overlaps_exact : OverlapsExact
 overlaps_exact es r sound h =
     (λ t. allowed_sound es r r.overlap refl (sym (allows_at es r r.class r.path r.overlap r.zero_overlap refl refl refl refl) ∙ t), allowed_from es sound r h)

@@ -22,6 +22,7 @@ use Rattle.paths.specs.Following.{turns, follows}
 use Rattle.paths.specs.Places.{are_within, are_new, are_signals_between}
 use Rattle.paths.specs.Paths.{may_start, is_start, may_end, is_end, is_path, has_path}
 use Rattle.paths.specs.Sound.{Starts, train_from_train, train_from_entry, shunting_from_shunting, shunting_from_train, last, SoundPath, HasSoundPath}
+use Rattle.paths.specs.Exactly.{PathsExact}
 use Rattle.paths.proofs.StepsExact.{turns_sound, turns_from, Followed, follows_sound, follows_from}
 use Rattle.paths.proofs.PlacesExact.{within_sound, within_from, new_once, new_from, body_sound, body_from}
 
@@ -161,5 +162,5 @@ has_sound es r (Some path) e t = record { path = path; is = e; sound = path_soun
 has_from : (es : List Element) → SoundElements es → (r : Route) → HasSoundPath es r → has_path es r ≡ true
 has_from es sound r h = rw h.is (path_from es sound r.class (listed h.path) h.sound)
 
-pub paths_exact : (es : List Element) (r : Route) → SoundElements es → (has_path es r ≡ true → HasSoundPath es r) × (HasSoundPath es r → has_path es r ≡ true)
+pub paths_exact : PathsExact
 paths_exact es r sound = (λ t. has_sound es r r.path refl t, has_from es sound r)

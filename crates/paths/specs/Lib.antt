@@ -3,3 +3,4 @@ pub mod Places
 pub mod Paths
 pub mod Overlaps
 pub mod Sound
+pub mod Exactly

@@ -2,6 +2,7 @@
 
 ghost use Rattle.std.specs.Prelude.{◌≡◌};
 ghost use Rattle.paths.specs.Overlaps.{is_overlap, is_overlap_allowed};
+ghost use Rattle.paths.specs.Exactly.{OverlapsExact};
 
 use crate::places::{all_new, all_within};
 use crate::way::follow;
@@ -24,8 +25,10 @@ fn is_sound_overlap(elements: &[Element], path: &[u8], overlap: &[u8]) -> bool
 }
 
 /// Whether a route has no overlap, a sound one or a zero overlap, as its class allows.
+/// On sound elements this test passes exactly the allowed overlaps of the routes with a sound path.
 pub fn has_allowed_overlap(elements: &[Element], route: &Route) -> bool
-    ensures { result ≡ is_overlap_allowed elements.now route.now }
+    ensures test { result ≡ is_overlap_allowed elements.now route.now }
+    ensures exact { OverlapsExact }
 {
     match (route.class, &route.path, &route.overlap, route.zero_overlap) {
         (_, _, None, false) => true,

@@ -2,6 +2,7 @@
 
 ghost use Rattle.std.specs.Prelude.{◌≡◌, ◌∷◌};
 ghost use Rattle.paths.specs.Paths.{may_start, is_start, may_end, is_end, is_path, has_path};
+ghost use Rattle.paths.specs.Exactly.{PathsExact};
 
 use crate::places::{all_new, all_signals_between, all_within};
 use crate::way::follow;
@@ -63,9 +64,11 @@ fn is_sound_path(elements: &[Element], class: RouteClass, path: &[u8]) -> bool
         && ends_soundly(elements, *first, rest)
 }
 
-/// Whether a route has a path, and a sound one.
+/// Whether a route has a path, and a sound one. On sound elements this test passes exactly the sound paths.
+#[tactic(auto, using(crate::proofs::PathsExact::paths_exact))]
 pub fn has_sound_path(elements: &[Element], route: &Route) -> bool
-    ensures { result ≡ has_path elements.now route.now }
+    ensures test { result ≡ has_path elements.now route.now }
+    ensures exact { PathsExact }
 {
     route.path.as_ref().is_some_and(|path| is_sound_path(elements, route.class, path.as_slice()))
 }

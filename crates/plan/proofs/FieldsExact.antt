@@ -110,3 +110,21 @@ entry_at (Some sort.Entry) (Some m) h = ap not (h m refl refl)
 
 pub entry_from : (e : Element) → EntryUnmarked e → is_entry_unmarked e ≡ true
 entry_from e h = entry_at e.sort e.marks h
+
+-- an entry signal that fails is marked as requested
+abbrev pub EntryMarked : Element → Type 0
+EntryMarked e = (m : Marks) × (e.sort ≡ Some sort.Entry) × (e.marks ≡ Some m) × (m.requested ≡ true)
+
+marked_at : (s : Option Sort) (k : Option Marks) → not (is_entry s && is_requested k) ≡ false → (m : Marks) × (s ≡ Some sort.Entry) × (k ≡ Some m) × (m.requested ≡ true)
+marked_at None k t = cc
+marked_at (Some sort.Shunting) k t = cc
+marked_at (Some sort.Train) k t = cc
+marked_at (Some sort.Entry) None t = cc
+marked_at (Some sort.Entry) (Some m) t = (m, refl, refl, not_from_true m.requested t)
+  where
+    not_from_true : (b : Bool) → not b ≡ false → b ≡ true
+    not_from_true true e = refl
+    not_from_true false e = cc
+
+pub entry_marked : (e : Element) → is_entry_unmarked e ≡ false → EntryMarked e
+entry_marked e t = marked_at e.sort e.marks t

@@ -9,6 +9,7 @@ use Rattle.layout.specs.Sound.{WellJoined}
 use Rattle.layout.specs.Ways.{port}
 use Rattle.layout.proofs.EveryTurn.{every_each, every_from}
 use Rattle.layout.proofs.JoinPorts.{joined_low}
+use Rattle.plan.specs.Faults.{SoundJoin, SoundJoins}
 use Rattle.plan.specs.ElementTests.{leads_to, is_join_sound, are_apart, is_apart, is_port_sound, are_joins_sound}
 
 -- a join that leads to a port is the join to it
@@ -22,13 +23,6 @@ leads_sound (Some j) e p t =
 
 leads_from : (o : Option Join) (e p : ℕ) → o ≡ Some (port e p) → leads_to o e p ≡ true
 leads_from o e p h = rw h (and_from _ _ (eq-eqb e e refl) (eq-eqb p p refl))
-
--- a join of an element, as the test has it
-pub record SoundJoin (es : List Element) (e p : ℕ) (j : Join) : Type 0 where
-  pub known : j.element < length es
-  pub has_port : j.port < ports (at es j.element).kind
-  pub elsewhere : j.element ≢ e
-  pub back : joined es j.element j.port ≡ Some (port e p)
 
 join_sound : (es : List Element) (e p : ℕ) (o : Option Join) (j : Join) → o ≡ Some j → is_join_sound es e p o ≡ true → SoundJoin es e p j
 join_sound es e p None j o t = cc
@@ -62,11 +56,6 @@ apart_from None b h = refl
 apart_from (Some j) None h = refl
 apart_from (Some j) (Some k) h = not_from_false _ (ne_eqb j.element k.element (h j k refl refl))
 
--- what the test says of an element: each of its joins is sound, and no two go to one element
-pub record SoundJoins (es : List Element) (e : ℕ) : Type 0 where
-  pub each : (p : ℕ) (j : Join) → joined es e p ≡ Some j → SoundJoin es e p j
-  pub once : (p q : ℕ) (j k : Join) → joined es e p ≡ Some j → joined es e q ≡ Some k → j.element ≡ k.element → p ≡ q
-
 module _ (es : List Element) (e : ℕ) (t : are_joins_sound es e ≡ true) where
   abbrev J : ℕ → Option Join
   J p = join_of (at es e) p
@@ -92,10 +81,10 @@ module _ (es : List Element) (e : ℕ) (t : are_joins_sound es e ≡ true) where
     ]
   ]
 
-  joins_at : SoundJoins es e
+  pub joins_at : SoundJoins es e
   joins_at = record { each = each_sound; once = once_sound }
 
-joins_test : (es : List Element) (e : ℕ) → SoundJoins es e → are_joins_sound es e ≡ true
+pub joins_test : (es : List Element) (e : ℕ) → SoundJoins es e → are_joins_sound es e ≡ true
 joins_test es e s =
     every_from (is_port_sound es e) 3 0 (λ p l m.
     and_from _ _ (join_from es e p (joined es e p) (s.each p))
@@ -110,8 +99,11 @@ joined_sound es t = record {
   once = λ e p q j k h f g same. (joins_at es e (t e h)).once p q j k f g same;
 }
 
-pub joined_from : (es : List Element) → WellJoined es → (e : ℕ) → e < length es → are_joins_sound es e ≡ true
-joined_from es w e h = joins_test es e (record {
+pub joins_of : (es : List Element) → WellJoined es → (e : ℕ) → e < length es → SoundJoins es e
+joins_of es w e h = record {
   each = λ p j o. record { known = (w.inside e p j h o).0; has_port = (w.inside e p j h o).1; elsewhere = w.elsewhere e p j h o; back = w.back e p j h o };
   once = λ p q j k f g same. w.once e p q j k h f g same;
-})
+}
+
+pub joined_from : (es : List Element) → WellJoined es → (e : ℕ) → e < length es → are_joins_sound es e ≡ true
+joined_from es w e h = joins_test es e (joins_of es w e h)

@@ -1,5 +1,7 @@
 mod FirstTurn
 mod FieldsExact
 mod JoinsExact
-mod OneWay
+pub mod OneWay
+mod Drawn
 pub mod PlansExact
+pub mod FaultsExact

@@ -1,13 +1,12 @@
 -- A route passes the test of requests exactly if it requests no element both ways.
-use Rattle.std.proofs.Common.{◌≡◌, ◌∙◌, ℕ, ◌<◌, ◌≤◌, true, false, not, ◌⊎◌, List, length, get_or, is_some, Some, None, Option, sym, refl, ap, subst, inl, inr, arith}
+use Rattle.std.proofs.Common.{◌≡◌, ◌∙◌, ℕ, suc, ◌<◌, ◌≤◌, Bool, true, false, not, ◌⊎◌, List, [], ◌∷◌, length, get_or, is_some, Some, None, Option, sym, refl, ap, subst, inl, inr, ⊎_elim, arith}
 use Rattle.std.specs.List.{list_any, zip}
 use Rattle.std.proofs.Math.ListN.{get_or-eq_default}
 use Rattle.std.proofs.lemmas.Bool.Decides.{nat_tests}
 use Rattle.std.proofs.lemmas.List.{get_or_default, get_or_past}
-use Rattle.std.proofs.lemmas.List.Elements.{All-from_get_or}
-use Rattle.std.proofs.lemmas.List.Folds.{list_any_at, list_any_none}
+use Rattle.std.proofs.lemmas.List.Folds.{list_any_at}
 use Rattle.std.proofs.lemmas.Slice.Zip.{length-zip, get_or-zip}
-use Rattle.std.proofs.lemmas.Bool.{and_parts, and_from, not-true, not_from_false, false_from_ne_true, both_ways, cases_lt}
+use Rattle.std.proofs.lemmas.Bool.{or_cases, and_parts, and_from, not-true, not_from_false, false_from_ne_true, both_ways, cases_lt}
 use Rattle.layout.specs.declared.element.Element.{Element}
 use Rattle.layout.specs.declared.element.Join.{Join}
 use Rattle.layout.specs.declared.kind.Kind.TheVariants as kind
@@ -62,6 +61,15 @@ point_known es e k = elim (cases_lt e (length es)) [
       let z : kind.Track ≡ kind.Point = sym (ap (λ (x : Element). x.kind) past) ∙ k in cc
 ]
 
+-- where some item passes a test, one at some place does
+pub some_place : {X : Type 0} (test : X → Bool) (xs : List X) (d : X) → list_any test xs ≡ true → (k : ℕ) × (k < length xs) × (test (get_or xs k d) ≡ true)
+some_place test [] d t = cc
+some_place test (x ∷ xs) d t =
+    ⊎_elim
+    (λ (here : test x ≡ true). (0, omega arith, here))
+    (λ (later : list_any test xs ≡ true). let y = some_place test xs d later in (suc y.0, omega (arith, y.1), y.2))
+    (or_cases (test x) (list_any test xs) t)
+
 module _ (es : List Element) (r : Route) (sound : SoundElements es) (few : length es ≤ 96) (path : HasSoundPath es r) (overlap : AllowedOverlap es r) where
   asked : (e : ℕ) (p : Position) → Requested es r e p → In (request e p) (requests_of es r)
   asked e p q = (requests_exact es r sound few path overlap e p).0 q
@@ -109,17 +117,25 @@ module _ (es : List Element) (r : Route) (sound : SoundElements es) (few : lengt
       let torn : is_torn (get_or pairs e (no_element, unmarked)) ≡ true = ap is_torn (pair_at e l m) ∙ torn_at e a b in
       both_ways (list_any is_torn pairs) (not-true _ t) (list_any_at is_torn pairs e (no_element, unmarked) (omega (arith, length-zip es marked)) torn)
 
-  pub one_way_from : ((e : ℕ) → Requested es r e position.Plus → Requested es r e position.Minus → ⊥) → not (asks_both_ways es r) ≡ true
+  -- an element that is torn is requested both ways
+  torn_asks : (e : ℕ) → e < length pairs → is_torn (get_or pairs e (no_element, unmarked)) ≡ true
+      → Requested es r e position.Plus × Requested es r e position.Minus
+  torn_asks e k t =
+      let l : e < length es = omega (arith, length-zip es marked) in
+      let m : e < length marked = omega (arith, length-zip es marked) in
+      let a = and_parts (is_point (at es e).kind) _ (sym (ap is_torn (pair_at e l m)) ∙ t) in
+      let b = and_parts (not (is_some (at es e).dual)) _ a.1 in
+      let c = and_parts (get_or marked e unmarked).plus _ b.1 in (
+        (requests_exact es r sound few path overlap e position.Plus).1 (requests_have marked 96 e position.Plus (omega (arith, few)) c.0),
+        (requests_exact es r sound few path overlap e position.Minus).1 (requests_have marked 96 e position.Minus (omega (arith, few)) c.1),
+      )
+
+  pub both_ways_asked : asks_both_ways es r ≡ true → (e : ℕ) × Requested es r e position.Plus × Requested es r e position.Minus
   unfolding asks_both_ways
-  one_way_from h =
-      not_from_false _ (list_any_none is_torn pairs (All-from_get_or (λ p. is_torn p ≡ false) pairs (no_element, unmarked) (λ e k. false_from_ne_true _ (torn e k))))
-    where
-      torn : (e : ℕ) → e < length pairs → is_torn (get_or pairs e (no_element, unmarked)) ≡ true → ⊥
-      torn e k t =
-          let l : e < length es = omega (arith, length-zip es marked) in
-          let m : e < length marked = omega (arith, length-zip es marked) in
-          let a = and_parts (is_point (at es e).kind) _ (sym (ap is_torn (pair_at e l m)) ∙ t) in
-          let b = and_parts (not (is_some (at es e).dual)) _ a.1 in
-          let c = and_parts (get_or marked e unmarked).plus _ b.1 in
-          h e ((requests_exact es r sound few path overlap e position.Plus).1 (requests_have marked 96 e position.Plus (omega (arith, few)) c.0))
-          ((requests_exact es r sound few path overlap e position.Minus).1 (requests_have marked 96 e position.Minus (omega (arith, few)) c.1))
+  both_ways_asked t =
+      let x = some_place is_torn pairs (no_element, unmarked) t in
+      let asked = torn_asks x.0 x.1 x.2 in
+      (x.0, asked.0, asked.1)
+
+  pub one_way_from : ((e : ℕ) → Requested es r e position.Plus → Requested es r e position.Minus → ⊥) → not (asks_both_ways es r) ≡ true
+  one_way_from h = not_from_false _ (false_from_ne_true _ (λ t. let x = both_ways_asked t in h x.0 x.1 x.2))

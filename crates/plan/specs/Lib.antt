@@ -4,3 +4,4 @@ pub mod Checks
 pub mod Plans
 pub mod Flanks
 pub mod Sound
+pub mod Faults

@@ -1,7 +1,8 @@
 -- What offered bytes mean to a plan.
-use Rattle.std.specs.Prelude.{ℕ, Bool, List, [], ◌∷◌, Some, None, Ok, Err, Result}
+use Rattle.std.specs.Prelude.{ℕ, Bool, ◌&&◌, List, [], ◌∷◌, length, Some, None, Ok, Err, Result, nat_lt}
 use Rattle.std.specs.Option.{is_none}
 use Rattle.std.specs.Result.{result_unwrap_or}
+use Rattle.bounded.specs.Lists.{listed}
 use Rattle.faults.specs.declared.fault.Fault.{Fault}
 use Rattle.layout.specs.declared.drawing.Drawing.{Drawing}
 use Rattle.layout.specs.declared.element.Element.{Element}
@@ -10,9 +11,9 @@ use Rattle.layout.specs.Drawings.{no_drawing, with_element}
 use Rattle.planbytes.specs.Files.{drawn_by, unless}
 use Rattle.plan.specs.Checks.{drawing_fault}
 
--- A drawing passes all checks.
+-- A drawing has an element, and passes all checks.
 unfoldable pub is_sound : Drawing → Bool
-is_sound d = is_none (drawing_fault d)
+is_sound d = nat_lt 0 (length (listed d.elements)) && is_none (drawing_fault d)
 
 abbrev pub checked : Result Drawing Fault → Result Drawing Fault
 checked (Ok d) = unless (drawing_fault d) (Ok d)

@@ -1,5 +1,5 @@
 -- Sound plans in the words of the subject, and the theorem that the checks pass exactly these.
-use Rattle.std.specs.Prelude.{◌≡◌, ℕ, ◌<◌, ◌≤◌, true, length, slice_index_or}
+use Rattle.std.specs.Prelude.{◌≡◌, ℕ, ◌<◌, ◌≤◌, true, ◌↔◌, length, slice_index_or}
 use Rattle.bounded.specs.Lists.{listed}
 use Rattle.layout.specs.declared.drawing.Drawing.{Drawing}
 use Rattle.layout.specs.declared.position.Position.TheVariants as position
@@ -9,9 +9,10 @@ use Rattle.paths.specs.Sound.{HasSoundPath, AllowedOverlap}
 use Rattle.walks.specs.Walks.{Requested}
 use Rattle.plan.specs.Plans.{is_sound}
 
--- A sound plan: at most 96 elements and 64 routes; the elements are sound; each route has a sound path and an allowed overlap,
+-- A sound plan: 1 to 96 elements and at most 64 routes; the elements are sound; each route has a sound path and an allowed overlap,
 -- and requests no element both ways.
 pub record SoundPlan (d : Drawing) : Type 0 where
+  pub some_element : 0 < length (listed d.elements)
   pub few_elements : length (listed d.elements) ≤ 96
   pub few_routes : length (listed d.routes) ≤ 64
   pub elements : SoundElements (listed d.elements)
@@ -21,6 +22,6 @@ pub record SoundPlan (d : Drawing) : Type 0 where
       → Requested (listed d.elements) (slice_index_or (listed d.routes) i no_route) e position.Plus
       → Requested (listed d.elements) (slice_index_or (listed d.routes) i no_route) e position.Minus → ⊥
 
--- A drawing passes the checks exactly if it is a sound plan.
+-- A drawing has an element and passes the checks exactly if it is a sound plan.
 abbrev pub ChecksExact : Type 0
-ChecksExact = (d : Drawing) → (is_sound d ≡ true → SoundPlan d) × (SoundPlan d → is_sound d ≡ true)
+ChecksExact = (d : Drawing) → (is_sound d ≡ true) ↔ SoundPlan d

@@ -6,7 +6,8 @@ ghost use Rattle.plan.specs.Plans.{is_sound, end_to, fresh_drawing, reading, dra
 ghost use Rattle.sheets.specs.Sheets.{sheets_of};
 ghost use Rattle.plan.specs.Flanks.{route_answer, flanks_answer, flanks_requests, flanks_branches};
 ghost use Rattle.plan.specs.Sound.{SoundPlan, ChecksExact};
-ghost use Rattle.walks.specs.Exactly.{RequestsExact, BranchesExact};
+ghost use Rattle.plan.specs.Faults.{FaultsExact};
+ghost use Rattle.walks.specs.Exactly.{RequestsExact, RequestsAscend, BranchesExact, BranchesAscend};
 
 use crate::checking::check_drawing;
 use faults::fault::Fault;
@@ -31,7 +32,7 @@ pub struct Plan {
 }
 
 /// The drawing that bytes say, if it passes all checks.
-#[tactic(auto, unfolding(crate::specs::Plans::reading, crate::specs::Plans::is_sound))]
+#[tactic(auto, using(crate::proofs::Drawn::drawn_passes), unfolding(crate::specs::Plans::reading))]
 fn checked_drawing(bytes: &[u8]) -> Result<Drawing, Fault>
     ensures value { result ≡ reading bytes.now }
     ensures sound { IfOk result (λ d. is_sound d ≡ true) }
@@ -88,14 +89,18 @@ impl Plan {
         ensures exact { ChecksExact }
         ensures requests { RequestsExact }
         ensures branches { BranchesExact }
+        ensures requests_order { RequestsAscend }
+        ensures branches_order { BranchesAscend }
     {
         &self.drawing
     }
 
-    /// Takes up what the bytes draw; on a fault the plan keeps its content.
+    /// Takes up what the bytes draw; on a fault the plan keeps its content. The fault of a drawing is what comes first of all that is
+    /// wrong with it.
     pub fn read(&mut self, bytes: &[u8]) -> Result<(), Fault>
         ensures answer { result_err result ≡ result_err (reading bytes.now) }
         ensures drawing { self.new.drawing ≡ drawing_after (reading bytes.now) self.old.drawing }
+        ensures first { FaultsExact }
     {
         let drawing = checked_drawing(bytes)?;
         work_out(&mut self.sheets, &drawing);

@@ -1,13 +1,14 @@
--- Which refusal a set gets.
-use Rattle.std.proofs.Common.{◌≡◌, ℕ, suc, Bool, true, false, cond, not, ◌||◌, ◌≢◌, ◌⊎◌, List, [], ◌∷◌, get_or, Some, None, Option, sym, refl, ap, ◌∙◌, inl, inr, ⊎_elim, arith}
+-- Which refusal an act gets.
+use Rattle.std.proofs.Common.{◌≡◌, ℕ, suc, Bool, true, false, cond, not, ◌&&◌, ◌||◌, ◌≢◌, ◌⊎◌, List, [], ◌∷◌, get_or, Some, None, Option, sym, refl, ap, ◌∙◌, inl, inr, ⊎_elim, arith}
 use Rattle.std.specs.List.{list_all}
 use Rattle.std.proofs.lemmas.Bool.{and_parts, or_cases, or_parts, both_ways, not-true, not-false, false_from_ne_true, lt-ltb}
 use Rattle.layout.specs.declared.position.Position.{Position}
 use Rattle.layout.proofs.EveryTurn.{every_not}
+use Rattle.field.specs.Meaning.{Meaning, occupied_of}
 use Rattle.refusals.specs.declared.refusal.Refusal.{Refusal}
 use Rattle.refusals.specs.declared.refusal.Refusal.TheVariants as refusal
 use Rattle.sheets.specs.declared.sheet.Sheets.{Sheets}
-use Rattle.sheets.specs.Reading.{route_count, route_sheet, has_route, need_of, uses, wanted_by, used_by}
+use Rattle.sheets.specs.Reading.{on_path, route_count, route_sheet, has_route, need_of, uses, wanted_by, used_by}
 use Rattle.holds.specs.declared.interlocking.Interlocking.{Interlocking}
 use Rattle.holds.specs.Positions.{same}
 use Rattle.holds.specs.RouteSets.{is_empty}
@@ -16,6 +17,7 @@ use Rattle.holds.specs.States.{stands}
 use Rattle.holds.specs.Interlockings.{hold_of, held_by, state_of}
 use Rattle.holds.specs.Refusing.{excuses, clear_of, clashes, apart, admits, all_admit, fits_hold, fits, all_fit}
 use Rattle.holds.proofs.Admitting.{all_admit_numbered}
+use Rattle.acts.specs.Answers.{path_free_at, path_free}
 use Rattle.runlaws.specs.Lawful.{Uses, Excused, Lawful}
 use Rattle.runlaws.proofs.Lists.{list_all_each, list_all_not}
 use Rattle.runlaws.proofs.Granted.{same_true, same_self, none_true_at}
@@ -160,3 +162,66 @@ locked_refuses t law i r route lock =
     both_ways (held_by i lock.holder lock.element) (none_true_at hold.routes.members lock.holder empty) lock.held)
     (λ (at : same hold.position lock.position ≡ true). lock.other (same_true hold.position lock.position at))
     (or_cases (is_empty hold.routes) (same hold.position lock.position) room))
+
+-- the answer to a clear by its two tests, to a release by its three, and to an event by its one
+abbrev pub clear_answer_by : Bool → Bool → Option Refusal
+clear_answer_by known up = cond known (cond up None (Some refusal.NotStanding)) (Some refusal.NoSuchRoute)
+
+abbrev pub release_answer_by : Bool → Bool → Bool → Option Refusal
+release_answer_by known up free = cond known (cond up (cond free None (Some refusal.PathOccupied)) (Some refusal.NotStanding)) (Some refusal.NoSuchRoute)
+
+pub unknown_clear : (known up : Bool) → clear_answer_by known up ≡ Some refusal.NoSuchRoute → known ≡ false
+unknown_clear false up h = refl
+unknown_clear true true h = cc
+unknown_clear true false h = cc
+
+pub idle_clear : (known up : Bool) → clear_answer_by known up ≡ Some refusal.NotStanding → (known ≡ true) × (up ≡ false)
+idle_clear false up h = cc
+idle_clear true true h = cc
+idle_clear true false h = (refl, refl)
+
+pub one_of_two : (known up : Bool) (x : Refusal) → clear_answer_by known up ≡ Some x → (x ≡ refusal.NoSuchRoute) ⊎ (x ≡ refusal.NotStanding)
+one_of_two false up x h = inl cc
+one_of_two true true x h = cc
+one_of_two true false x h = inr cc
+
+pub unknown_release : (known up free : Bool) → release_answer_by known up free ≡ Some refusal.NoSuchRoute → known ≡ false
+unknown_release false up free h = refl
+unknown_release true false free h = cc
+unknown_release true true true h = cc
+unknown_release true true false h = cc
+
+pub idle_release : (known up free : Bool) → release_answer_by known up free ≡ Some refusal.NotStanding → (known ≡ true) × (up ≡ false)
+idle_release false up free h = cc
+idle_release true false free h = (refl, refl)
+idle_release true true true h = cc
+idle_release true true false h = cc
+
+pub occupied_release :
+    (known up free : Bool) → release_answer_by known up free ≡ Some refusal.PathOccupied → (known ≡ true) × (up ≡ true) × (free ≡ false)
+occupied_release false up free h = cc
+occupied_release true false free h = cc
+occupied_release true true true h = cc
+occupied_release true true false h = (refl, refl, refl)
+
+pub one_of_three :
+    (known up free : Bool) (x : Refusal) → release_answer_by known up free ≡ Some x
+    → (x ≡ refusal.NoSuchRoute) ⊎ (x ≡ refusal.NotStanding) ⊎ (x ≡ refusal.PathOccupied)
+one_of_three false up free x h = inl cc
+one_of_three true false free x h = inr (inl cc)
+one_of_three true true true x h = cc
+one_of_three true true false x h = inr (inr cc)
+
+pub event_refused : (is : Bool) (x : Refusal) → cond is None (Some refusal.NotOfThePlan) ≡ Some x → (is ≡ false) × (x ≡ refusal.NotOfThePlan)
+event_refused true x h = cc
+event_refused false x h = (refl, cc)
+
+-- a section on the path of a sheet that is occupied
+pub path_blocked :
+    (t : Sheets) (m : Meaning) (r : ℕ) → path_free (route_sheet t r) m ≡ false
+    → (x : ℕ) × (on_path (route_sheet t r) x ≡ true) × (occupied_of m x ≡ true)
+path_blocked t m r none =
+    let sheet = route_sheet t r in
+    let at = list_all_not (path_free_at sheet m) (used_by sheet) none in
+    let both = and_parts (on_path sheet at.0) (occupied_of m at.0) (not-false (on_path sheet at.0 && occupied_of m at.0) at.2) in
+    (at.0, both.0, both.1)

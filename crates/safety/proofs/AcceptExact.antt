@@ -104,7 +104,7 @@ module _ (d : Drawing) (sound : SoundPlan d) where
       let low : x < 64 = (sound.elements.fields some.element some.within).section_low x some.lies in
       (known_exact d sound x low).1 (some.element, some.within, some.lies)
 
-  event_meant : (v : Event) → is_event (sheets_of d) v ≡ true → OfThePlan d v
+  pub event_meant : (v : Event) → is_event (sheets_of d) v ≡ true → OfThePlan d v
   event_meant (event.Report e v) h =
       let b = and_parts (moves (element_of (sheets_of d) e).kind) (ltb v 3) h in
       report (moved_meant e b.0) (ltb-true v 3 b.1)
@@ -118,7 +118,7 @@ module _ (d : Drawing) (sound : SoundPlan d) where
       let b = and_parts (has_section (sheets_of d) x) (ltb v 2) h in
       occupation (section_meant x b.0) (ltb-true v 2 b.1)
 
-  event_told : (v : Event) → OfThePlan d v → is_event (sheets_of d) v ≡ true
+  pub event_told : (v : Event) → OfThePlan d v → is_event (sheets_of d) v ≡ true
   event_told (event.Report e v) (report m l) =
       and_from (moves (element_of (sheets_of d) e).kind) (ltb v 3) (moved_told e m) (lt-ltb v 3 l)
   event_told (event.Block e v) (block m l) =

@@ -1,24 +1,29 @@
--- Which refusal a set gets.
-use Rattle.std.proofs.Common.{◌≡◌, ℕ, ◌<◌, Bool, true, false, inl, inr, ⊎_elim}
-use Rattle.std.proofs.lemmas.Bool.{cases_Bool, both_ways, false_from_ne_true}
+-- Which refusal an act gets.
+use Rattle.std.proofs.Common.{◌≡◌, ℕ, ◌<◌, Bool, true, false, inl, inr, ⊎_elim, None, Some, sym, ap, ◌∙◌}
+use Rattle.std.proofs.lemmas.Bool.{cases_Bool, both_ways, cond-false, or_left, false_from_ne_true}
 use Rattle.layout.specs.declared.drawing.Drawing.{Drawing}
 use Rattle.refusals.specs.declared.refusal.Refusal.TheVariants as refusal
-use Rattle.sheets.specs.Reading.{route_sheet, has_route}
+use Rattle.sheets.specs.Reading.{route_sheet, has_route, use_of}
 use Rattle.sheets.specs.Sheets.{sheets_of}
 use Rattle.plan.specs.Sound.{SoundPlan}
 use Rattle.sheetlaws.specs.Routes.{HasRoute}
+use Rattle.field.specs.Meaning.{occupied_of}
 use Rattle.holds.specs.States.{stands}
 use Rattle.holds.specs.Interlockings.{state_of}
 use Rattle.holds.specs.Refusing.{all_admit, all_fit}
+use Rattle.acts.specs.declared.act.Act.TheVariants as act
 use Rattle.acts.specs.Situations.{Situation}
+use Rattle.acts.specs.Answers.{path_free, is_event}
 use Rattle.runlaws.specs.Lawful as over
+use Rattle.runlaws.proofs.Accepting as accepting
 use Rattle.runlaws.proofs.Coherent.{admitted_apart}
-use Rattle.runlaws.proofs.Refused.{answer_by, no_route_told, stands_told, in_use_told, otherwise_told, one_of_four, Clash, clash_found, clash_refuses, Locked, locked_found, locked_refuses}
+use Rattle.runlaws.proofs.Refused.{answer_by, no_route_told, stands_told, in_use_told, otherwise_told, one_of_four, clear_answer_by, unknown_clear, idle_clear, one_of_two, release_answer_by, unknown_release, idle_release, occupied_release, one_of_three, event_refused, path_blocked, Clash, clash_found, clash_refuses, Locked, locked_found, locked_refuses}
 use Rattle.safety.specs.Words.{Standing}
-use Rattle.safety.specs.Refused.{SetGets, SharedExcused, SectionInUse, HeldOtherwise, SetRefusedExactly}
-use Rattle.safety.proofs.PlanLawful.{route_known, route_has, use_told, plan_lawful}
+use Rattle.safety.specs.Refused.{Gets, SharedExcused, SectionInUse, HeldOtherwise, SetRefusedExactly, ClearRefused, ClearRefusedExactly, PathOccupied, ReleaseRefused, ReleaseRefusedExactly, EventRefusedExactly}
+use Rattle.safety.proofs.PlanLawful.{route_known, route_has, path_told, use_told, plan_lawful}
 use Rattle.safety.proofs.PlanLaw.{excused}
-use Rattle.safety.proofs.SetExact.{need_told, need_meant, use_low, use_meant, excuse_told}
+use Rattle.safety.proofs.SetExact.{need_told, need_meant, use_low, path_meant, use_meant, excuse_told}
+use Rattle.safety.proofs.AcceptExact.{event_meant, event_told}
 
 module _ (d : Drawing) (sound : SoundPlan d) (s : Situation) (r : ℕ) where
   abbrev known : Bool
@@ -101,26 +106,26 @@ module _ (d : Drawing) (sound : SoundPlan d) (s : Situation) (r : ℕ) where
       other = o.otherwise;
     }
 
-  refused_use : SetGets d s r refusal.SectionInUse → HasRoute d r × (Standing s r → ⊥) × SectionInUse d s r
+  refused_use : Gets d s (act.Set r) refusal.SectionInUse → HasRoute d r × (Standing s r → ⊥) × SectionInUse d s r
   refused_use g =
       let told = in_use_told known up admit fit g in
       let h : HasRoute d r = route_known d sound r told.0 in
       (h, not_standing told.1, clash_meant h (clash_found (sheets_of d) (plan_lawful d sound) s.inner r told.0 told.2))
 
-  use_refuses : HasRoute d r → (Standing s r → ⊥) → SectionInUse d s r → SetGets d s r refusal.SectionInUse
+  use_refuses : HasRoute d r → (Standing s r → ⊥) → SectionInUse d s r → Gets d s (act.Set r) refusal.SectionInUse
   use_refuses h new u =
       let k : known ≡ true = route_has d sound r h in
       let n : up ≡ false = false_from_ne_true up new in
       let a : admit ≡ false = clash_refuses (sheets_of d) (plan_lawful d sound) s.inner r k (clash_from h u) in
       λ i. answer_by (k i) (n i) (a i) fit
 
-  refused_otherwise : SetGets d s r refusal.HeldOtherwise → HasRoute d r × (Standing s r → ⊥) × SharedExcused d s r × HeldOtherwise d s r
+  refused_otherwise : Gets d s (act.Set r) refusal.HeldOtherwise → HasRoute d r × (Standing s r → ⊥) × SharedExcused d s r × HeldOtherwise d s r
   refused_otherwise g =
       let told = otherwise_told known up admit fit g in
       let h : HasRoute d r = route_known d sound r told.0 in
       (h, not_standing told.1, shared_meant h told.2, locked_meant h (locked_found (sheets_of d) s.inner r told.3))
 
-  otherwise_refuses : HasRoute d r → (Standing s r → ⊥) → SharedExcused d s r → HeldOtherwise d s r → SetGets d s r refusal.HeldOtherwise
+  otherwise_refuses : HasRoute d r → (Standing s r → ⊥) → SharedExcused d s r → HeldOtherwise d s r → Gets d s (act.Set r) refusal.HeldOtherwise
   otherwise_refuses h new free o =
       let k : known ≡ true = route_has d sound r h in
       let n : up ≡ false = false_from_ne_true up new in
@@ -150,3 +155,86 @@ set_refused d sound s r =
       held_otherwise = (refused_otherwise d sound s r, λ b. otherwise_refuses d sound s r b.0 b.1 b.2 b.3);
       no_other = one_of_four k u a f;
     }
+
+module _ (d : Drawing) (sound : SoundPlan d) (s : Situation) (r : ℕ) where
+  pub clear_refused : ClearRefused d s r
+  clear_refused =
+      let k = known d sound s r in
+      let u = up d sound s r in
+      record {
+        no_such_route = (
+          λ g h. both_ways k (unknown_clear k u g) (route_has d sound r h),
+          λ none. let unknown : k ≡ false = false_from_ne_true k (λ t. none (route_known d sound r t)) in λ i. clear_answer_by (unknown i) u,
+        );
+        not_standing = (
+          λ g. let told = idle_clear k u g in (route_known d sound r told.0, not_standing d sound s r told.1),
+          λ b.
+              let t : k ≡ true = route_has d sound r b.0 in
+              let n : u ≡ false = false_from_ne_true u b.1 in
+              λ i. clear_answer_by (t i) (n i),
+        );
+        no_other = one_of_two k u;
+      }
+
+  abbrev free : Bool
+  free = path_free (route_sheet (sheets_of d) r) s.meant
+
+  occupied_meant : HasRoute d r → free ≡ false → PathOccupied d s r
+  occupied_meant h n =
+      let found = path_blocked (sheets_of d) s.meant r n in
+      let low : found.0 < 64 = use_low d sound r found.0 h (or_left (use_of (route_sheet (sheets_of d) r) found.0).path (use_of (route_sheet (sheets_of d) r) found.0).overlap found.1) in
+      record { section = found.0; used = path_meant d sound r found.0 h low found.1; occupied = found.2 }
+
+  occupied_told : HasRoute d r → PathOccupied d s r → free ≡ false
+  occupied_told h o =
+      false_from_ne_true free
+      (λ t.
+      both_ways (occupied_of s.meant o.section)
+      (accepting.path_told (sheets_of d) (plan_lawful d sound) s.meant r (route_has d sound r h) t o.section (path_told d sound r o.section h o.used))
+      o.occupied)
+
+  pub release_refused : ReleaseRefused d s r
+  release_refused =
+      let k = known d sound s r in
+      let u = up d sound s r in
+      let f = free in
+      record {
+        no_such_route = (
+          λ g h. both_ways k (unknown_release k u f g) (route_has d sound r h),
+          λ none. let unknown : k ≡ false = false_from_ne_true k (λ t. none (route_known d sound r t)) in λ i. release_answer_by (unknown i) u f,
+        );
+        not_standing = (
+          λ g. let told = idle_release k u f g in (route_known d sound r told.0, not_standing d sound s r told.1),
+          λ b.
+              let t : k ≡ true = route_has d sound r b.0 in
+              let n : u ≡ false = false_from_ne_true u b.1 in
+              λ i. release_answer_by (t i) (n i) f,
+        );
+        path_occupied = (
+          λ g.
+              let told = occupied_release k u f g in
+              let h : HasRoute d r = route_known d sound r told.0 in
+              (h, told.1, occupied_meant h told.2),
+          λ b.
+              let t : k ≡ true = route_has d sound r b.0 in
+              let st : u ≡ true = b.1 in
+              let n : f ≡ false = occupied_told b.0 b.2 in
+              λ i. release_answer_by (t i) (st i) (n i),
+        );
+        no_other = one_of_three k u f;
+      }
+
+pub clear_refused_exactly : (d : Drawing) → SoundPlan d → ClearRefusedExactly d
+clear_refused_exactly = clear_refused
+
+pub release_refused_exactly : (d : Drawing) → SoundPlan d → ReleaseRefusedExactly d
+release_refused_exactly = release_refused
+
+pub event_refused_exactly : (d : Drawing) → SoundPlan d → EventRefusedExactly d
+event_refused_exactly d sound s v x =
+    let is = is_event (sheets_of d) v in (
+      λ g. let told = event_refused is x g in (told.1, λ o. both_ways is told.0 (event_told d sound v o)),
+      λ b.
+          let no : is ≡ false = false_from_ne_true is (λ t. b.1 (event_meant d sound v t)) in
+          cond-false is None (Some refusal.NotOfThePlan) no ∙ ap Some (sym b.0),
+    )

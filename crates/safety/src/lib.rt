@@ -11,11 +11,11 @@ ghost use Rattle.safety.specs.Setting.{SetExactly, SameOnEveryField, RefusedChan
 ghost use Rattle.safety.specs.Ready.{ReadyExactly, SettledAfter};
 ghost use Rattle.safety.specs.States.{StandsExactly, DroppedStays};
 ghost use Rattle.safety.specs.Accepting.{ClearExactly, ReleaseExactly, EventExactly};
-ghost use Rattle.safety.specs.Refused.{SetRefusedExactly};
 ghost use Rattle.safety.specs.Signals.{AspectsExactly};
 ghost use Rattle.safety.specs.Holding.{HoldsExactly};
 ghost use Rattle.safety.specs.Ordering.{OrdersExactly};
 ghost use Rattle.safety.specs.Granting.{GrantsExactly, GrantedBySetOrClear};
+ghost use Rattle.safety.specs.Refused.{SetRefusedExactly, ClearRefusedExactly, ReleaseRefusedExactly, EventRefusedExactly};
 
 /// The law holds of every run on a sound plan.
 pub fn law_of_runs()
@@ -24,7 +24,7 @@ pub fn law_of_runs()
 
 /// On a sound plan: when a set is accepted, that no field decides it, that a refused act changes nothing,
 /// when a route is ready, what every accepted act leaves settled, which routes stand after an act, which dropped ones are still dropped,
-/// when a clear, a release and an event are accepted, which refusal a set gets, what signals show, what routes hold, what acts order, and
+/// when a clear, a release and an event are accepted, which refusal each act gets, what signals show, what routes hold, what acts order, and
 /// which requests are granted.
 #[tactic(auto, using(crate::proofs::SetExact::set_exactly, crate::proofs::SetExact::same_on_every_field, crate::proofs::SetExact::refused_changes_nothing, crate::proofs::ReadyExact::ready_exactly, crate::proofs::SettledExact::settled_after))]
 pub fn acts_are_exact()
@@ -44,4 +44,7 @@ pub fn acts_are_exact()
     ensures orders { (d : Drawing) → SoundPlan d → OrdersExactly d }
     ensures grants { (d : Drawing) → SoundPlan d → GrantsExactly d }
     ensures granted { (d : Drawing) → GrantedBySetOrClear d }
+    ensures clear_refused { (d : Drawing) → SoundPlan d → ClearRefusedExactly d }
+    ensures release_refused { (d : Drawing) → SoundPlan d → ReleaseRefusedExactly d }
+    ensures event_refused { (d : Drawing) → SoundPlan d → EventRefusedExactly d }
 {}

@@ -8,3 +8,4 @@ pub mod OtherLeg
 pub mod NeedsExact
 pub mod OneStart
 pub mod ListsExact
+pub mod Concerned

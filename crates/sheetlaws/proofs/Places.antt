@@ -1,23 +1,13 @@
 -- The test for a section over a way passes exactly if an element at some place of the way lies in it.
-use Rattle.std.proofs.Common.{◌≡◌, ℕ, suc, ◌<◌, Bool, true, List, [], ◌∷◌, length, get_or, ⊎_elim, Some, sym, arith}
-use Rattle.std.specs.List.{list_any}
-use Rattle.std.proofs.lemmas.Bool.{or_cases, true≢false}
+use Rattle.std.proofs.Common.{◌≡◌, ℕ, ◌<◌, true, List, length, Some}
 use Rattle.std.proofs.lemmas.List.Folds.{list_any_at}
 use Rattle.layout.specs.declared.element.Element.{Element}
 use Rattle.layout.specs.Drawings.{no_element}
 use Rattle.layout.specs.Ports.{at}
 use Rattle.layout.specs.Ways.{place}
+use Rattle.plan.proofs.OneWay.{some_place}
 use Rattle.sheets.proofs.SomeNumber.{number_is, is_number}
 use Rattle.sheets.specs.Sections.{lies_in, is_on_way, is_known}
-
--- where some item passes a test, one at some place does
-some_place : {X : Type 0} (test : X → Bool) (xs : List X) (d : X) → list_any test xs ≡ true → (k : ℕ) × (k < length xs) × (test (get_or xs k d) ≡ true)
-some_place test [] d t = absurd (true≢false (sym t))
-some_place test (x ∷ xs) d t =
-    ⊎_elim
-    (λ (here : test x ≡ true). (0, omega arith, here))
-    (λ (later : list_any test xs ≡ true). let y = some_place test xs d later in (suc y.0, omega (arith, y.1), y.2))
-    (or_cases (test x) (list_any test xs) t)
 
 module _ (es : List Element) (way : List ℕ) (s : ℕ) where
   pub on_way_sound : is_on_way es way s ≡ true → (k : ℕ) × (k < length way) × ((at es (place way k)).section ≡ Some s)

@@ -7,7 +7,7 @@ ghost use Rattle.plan.specs.Sound.{SoundPlan};
 ghost use Rattle.sheetlaws.specs.Routes.{SheetsInOrder};
 ghost use Rattle.sheetlaws.specs.Sections.{SectionsExact, SectionsInRange};
 ghost use Rattle.sheetlaws.specs.Elements.{ElementsExact, KnownExact};
-ghost use Rattle.sheetlaws.specs.Lists.{WantedExact, UsedExact};
+ghost use Rattle.sheetlaws.specs.Lists.{WantedExact, UsedSectionsExact, WantedListed, UsedListed, ListsAscend};
 ghost use Rattle.sheetlaws.specs.Ends.{EndsExact, ShowingExact};
 ghost use Rattle.sheetlaws.specs.Requests.{SheetRequestsExact};
 ghost use Rattle.sheetlaws.specs.Needed.{NeedsExact};
@@ -31,7 +31,10 @@ pub fn sheets_are_exact(plan: &Plan) -> &Sheets
     ensures needs { NeedsExact }
     ensures starts { OneStart }
     ensures wanted { WantedExact }
-    ensures used { UsedExact }
+    ensures used { UsedSectionsExact }
+    ensures wanted_listed { WantedListed }
+    ensures used_listed { UsedListed }
+    ensures ascending { ListsAscend }
 {
     plan.sheets()
 }

@@ -9,8 +9,8 @@ ghost use Rattle.safety.specs.Setting.{SetExactly, SameOnEveryField, RefusedChan
 ghost use Rattle.safety.specs.Ready.{ReadyExactly, SettledAfter};
 ghost use Rattle.safety.specs.States.{DroppedStays};
 ghost use Rattle.safety.specs.Accepting.{ClearExactly, ReleaseExactly, EventExactly};
-ghost use Rattle.safety.specs.Refused.{SetRefusedExactly};
 ghost use Rattle.safety.specs.Granting.{GrantedBySetOrClear};
+ghost use Rattle.safety.specs.Refused.{SetRefusedExactly, ClearRefusedExactly, ReleaseRefusedExactly, EventRefusedExactly};
 ghost use Rattle.station.specs.Performing.{Performs};
 ghost use Rattle.station.specs.Protection.{protection_answer, protection_shields, protection_branches};
 
@@ -76,6 +76,9 @@ impl<F: Field> OpenStation<F> {
         ensures event { EventExactly self.old.plan.drawing }
         ensures refusals { SetRefusedExactly self.old.plan.drawing }
         ensures granted { GrantedBySetOrClear self.old.plan.drawing }
+        ensures clear_refused { ClearRefusedExactly self.old.plan.drawing }
+        ensures release_refused { ReleaseRefusedExactly self.old.plan.drawing }
+        ensures event_refused { EventRefusedExactly self.old.plan.drawing }
         ensures orderless { SettlingIsExact }
     {
         perform_in(self.plan.sheets(), &mut self.yard, act)

@@ -1,5 +1,5 @@
 -- What a route requests is what walks come to, and its open branches are where walks end open.
-use Rattle.std.proofs.Common.{◌≡◌, ℕ, suc, ◌<◌, ◌≤◌, ◌⊎◌, List, [], length, sym, ap, subst, inl, inr, arith}
+use Rattle.std.proofs.Common.{◌≡◌, ℕ, suc, ◌<◌, ◌≤◌, ◌⊎◌, List, [], length, Some, sym, ap, ◌∙◌, subst, inl, inr, arith}
 use Rattle.layout.specs.declared.element.Element.{Element}
 use Rattle.layout.specs.declared.element.Join.{Join}
 use Rattle.layout.specs.declared.position.Position.{Position}
@@ -9,10 +9,11 @@ use Rattle.layout.specs.Sound.{SoundElements}
 use Rattle.layout.specs.Uses.{path_of, overlap_of, Flank}
 use Rattle.paths.specs.Sound.{Within, SoundOverlap}
 use Rattle.flank.specs.Used.{used_table}
+use Rattle.flank.specs.Flanks.{flank_of}
 use Rattle.flank.specs.Search.{Finding, shield, open_end}
 use Rattle.flank.specs.Protection.{request, branch, requests_of, branches_of, route_marks}
 use Rattle.walks.specs.Walks.{Walk, Requested, EndsOpen}
-use Rattle.walks.specs.Exactly.{In, ChainsEnd, RequestsExact, BranchesExact}
+use Rattle.walks.specs.Exactly.{In, ChainsEnd, UsedExact, FlanksExact, RequestsExact, BranchesExact}
 use Rattle.walks.proofs.Chain.{starts, along_stops}
 use Rattle.walks.proofs.Told.{Ground, no_signal}
 use Rattle.walks.proofs.Found.{Comes, walk_port, comes_found, found_comes}
@@ -118,3 +119,19 @@ requests_exact es r elements few path overlap e p =
 pub branches_exact : BranchesExact
 branches_exact es r elements few path overlap u l =
     let route = sound_route es r path overlap in (to_branches es r elements few route u l, from_branches es r elements few route u l)
+
+pub used_exact : UsedExact
+used_exact es r elements few path overlap e =
+    let route = sound_route es r path overlap in
+    (from_table es r e, to_table es r few route.path.within (overlap_within es r elements few route) e)
+
+pub flanks_exact : FlanksExact
+flanks_exact es r elements few path overlap e n p =
+    let route = sound_route es r path overlap in
+    (left_flank es r elements route e (record { leg = p; spare = n }), left)
+  where
+    left : Flank es r e p (suc n) → flank_of es r e ≡ Some (record { leg = p; spare = n })
+    left f =
+        let found = flank_left es r elements (sound_route es r path overlap) e f in
+        let spare : found.found.spare ≡ n = omega (arith, found.reach_is) in
+        found.is ∙ ap Some (λ i. record { leg = found.leg_is i; spare = spare i })

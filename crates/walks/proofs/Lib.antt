@@ -8,3 +8,4 @@ pub mod Legs
 pub mod Flanks
 pub mod Tables
 pub mod Exactly
+pub mod Ascending

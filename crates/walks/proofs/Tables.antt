@@ -200,7 +200,7 @@ module _ {A : Type 0} where
   cond_in b x h = rw h (inl refl)
 
 -- the requests in a table
-in_at : (e a : ℕ) (p : Position) (m : Mark) → In (request e p) (requests_at a m) → (a ≡ e) × (flag (shield a p) m ≡ true)
+pub in_at : (e a : ℕ) (p : Position) (m : Mark) → In (request e p) (requests_at a m) → (a ≡ e) × (flag (shield a p) m ≡ true)
 in_at e a p m h =
     ⊎_elim (part position.Plus m.plus refl) (part position.Minus m.minus refl)
     (in_either (request e p) (cond m.plus (request a position.Plus ∷ []) []) (cond m.minus (request a position.Minus ∷ []) []) h)
@@ -232,7 +232,7 @@ requests_have t (suc n) e p l h =
     (λ d. in_left (request e p) (requests_in t n) _ (requests_have t n e p (omega arith) h)) (cases_eq n e)
 
 -- the open branches in a table
-in_branches : (a : ℕ) (t : List Mark) (n u l : ℕ) → In (branch u l) (branches_in a t n) → (a ≡ u) × (l < n) × Has t (open_end l)
+pub in_branches : (a : ℕ) (t : List Mark) (n u l : ℕ) → In (branch u l) (branches_in a t n) → (a ≡ u) × (l < n) × Has t (open_end l)
 unfolding branches_in
 in_branches a t zero u l h = absurd h
 in_branches a t (suc n) u l h =

@@ -1,10 +1,10 @@
 use Rattle.safety.proofs.StatesExact.{stands_exactly, dropped_stays}
 use Rattle.safety.proofs.AcceptExact.{clear_exactly, release_exactly, event_exactly}
-use Rattle.safety.proofs.RefusedExact.{set_refused}
 use Rattle.safety.proofs.AspectsExact.{aspects_exactly}
 use Rattle.safety.proofs.HoldsExact.{holds_exactly}
 use Rattle.safety.proofs.OrdersExact.{orders_exactly}
 use Rattle.safety.proofs.GrantsExact.{grants_exactly, granted_by_set_or_clear}
+use Rattle.safety.proofs.RefusedExact.{set_refused, clear_refused_exactly, release_refused_exactly, event_refused_exactly}
 use Rattle.safety.proofs.acts_are_exact.Goals as goal
 
 pub returns-clause-stands : goal.returns-clause-stands
@@ -39,3 +39,12 @@ returns-clause-grants c = grants_exactly
 
 pub returns-clause-granted : goal.returns-clause-granted
 returns-clause-granted c = granted_by_set_or_clear
+
+pub returns-clause-clear_refused : goal.returns-clause-clear_refused
+returns-clause-clear_refused c = clear_refused_exactly
+
+pub returns-clause-release_refused : goal.returns-clause-release_refused
+returns-clause-release_refused c = release_refused_exactly
+
+pub returns-clause-event_refused : goal.returns-clause-event_refused
+returns-clause-event_refused c = event_refused_exactly

@@ -6,7 +6,8 @@ use Rattle.sheetlaws.proofs.EndsExact.{ends_exact, showing_exact}
 use Rattle.sheetlaws.proofs.RequestsExact.{sheet_requests_exact}
 use Rattle.sheetlaws.proofs.NeedsExact.{needs_exact}
 use Rattle.sheetlaws.proofs.OneStart.{one_start}
-use Rattle.sheetlaws.proofs.ListsExact.{wanted_exact, used_exact}
+use Rattle.sheetlaws.proofs.ListsExact.{wanted_exact, used_exact, lists_ascend}
+use Rattle.sheetlaws.proofs.Concerned.{wanted_in_words, used_in_words}
 use Rattle.sheetlaws.proofs.sheets_are_exact.Goals as goal
 
 pub returns : goal.returns
@@ -23,6 +24,9 @@ returns c = record {
   requests = sheet_requests_exact;
   needs = needs_exact;
   starts = one_start;
-  wanted = wanted_exact;
-  used = used_exact;
+  wanted = wanted_in_words;
+  used = used_in_words;
+  wanted_listed = wanted_exact;
+  used_listed = used_exact;
+  ascending = lists_ascend;
 }

@@ -5,8 +5,8 @@ use Rattle.safety.proofs.ReadyExact.{ready_exactly}
 use Rattle.safety.proofs.SettledExact.{settled_after}
 use Rattle.safety.proofs.StatesExact.{dropped_stays}
 use Rattle.safety.proofs.AcceptExact.{clear_exactly, release_exactly, event_exactly}
-use Rattle.safety.proofs.RefusedExact.{set_refused}
 use Rattle.safety.proofs.GrantsExact.{granted_by_set_or_clear}
+use Rattle.safety.proofs.RefusedExact.{set_refused, clear_refused_exactly, release_refused_exactly, event_refused_exactly}
 use Rattle.station.proofs.open_station.OpenStation.perform.Goals as goal
 
 pub returns-clause-set : goal.returns-clause-set
@@ -38,6 +38,15 @@ returns-clause-event g c = event_exactly _ (plan_is_sound c.args.self.now.plan)
 
 pub returns-clause-refusals : goal.returns-clause-refusals
 returns-clause-refusals g c = set_refused _ (plan_is_sound c.args.self.now.plan)
+
+pub returns-clause-clear_refused : goal.returns-clause-clear_refused
+returns-clause-clear_refused g c = clear_refused_exactly _ (plan_is_sound c.args.self.now.plan)
+
+pub returns-clause-release_refused : goal.returns-clause-release_refused
+returns-clause-release_refused g c = release_refused_exactly _ (plan_is_sound c.args.self.now.plan)
+
+pub returns-clause-event_refused : goal.returns-clause-event_refused
+returns-clause-event_refused g c = event_refused_exactly _ (plan_is_sound c.args.self.now.plan)
 
 pub returns-clause-orderless : goal.returns-clause-orderless
 returns-clause-orderless g c = settling_exact
