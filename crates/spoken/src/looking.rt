@@ -10,7 +10,7 @@ use plan::plan::Plan;
 use std::io;
 use viewing::listing::print_listed;
 
-/// No route has more requests, nor more open branches, than these lists have places.
+/// Each of 96 elements in two positions, and each pair of 96 elements: no route has more requests, nor more open branches.
 pub const MOST_REQUESTS: usize = 192;
 
 pub const MOST_BRANCHES: usize = 9216;
