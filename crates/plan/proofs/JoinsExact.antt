@@ -10,10 +10,10 @@ use Rattle.layout.specs.Ways.{port}
 use Rattle.layout.proofs.EveryTurn.{every_each, every_from}
 use Rattle.layout.proofs.JoinPorts.{joined_low}
 use Rattle.plan.specs.Faults.{SoundJoin, SoundJoins}
-use Rattle.plan.specs.ElementTests.{leads_to, is_join_sound, are_apart, is_apart, is_port_sound, are_joins_sound}
+use Rattle.plan.specs.ElementTests.{goes_to, is_join_sound, are_apart, is_apart, is_port_sound, are_joins_sound}
 
 -- a join that leads to a port is the join to it
-leads_sound : (o : Option Join) (e p : ℕ) → leads_to o e p ≡ true → o ≡ Some (port e p)
+leads_sound : (o : Option Join) (e p : ℕ) → goes_to o e p ≡ true → o ≡ Some (port e p)
 leads_sound None e p t = cc
 leads_sound (Some j) e p t =
     let b : (eqb j.element e ≡ true) × (eqb j.port p ≡ true) = and_parts _ _ t in
@@ -21,7 +21,7 @@ leads_sound (Some j) e p t =
     let y : j.port ≡ p = eqb-true j.port p b.1 in
     ap Some (λ i. record { element = x i; port = y i })
 
-leads_from : (o : Option Join) (e p : ℕ) → o ≡ Some (port e p) → leads_to o e p ≡ true
+leads_from : (o : Option Join) (e p : ℕ) → o ≡ Some (port e p) → goes_to o e p ≡ true
 leads_from o e p h = rw h (and_from _ _ (eq-eqb e e refl) (eq-eqb p p refl))
 
 join_sound : (es : List Element) (e p : ℕ) (o : Option Join) (j : Join) → o ≡ Some j → is_join_sound es e p o ≡ true → SoundJoin es e p j

@@ -37,9 +37,9 @@ abbrev pub has_its_fields : Element → Bool
 has_its_fields e = are_joins_its_own e && (are_fields_needed e && (are_fields_allowed e && is_section_low e.section))
 
 -- A join goes to this port of this element.
-abbrev pub leads_to : Option Join → ℕ → ℕ → Bool
-leads_to None e p = false
-leads_to (Some j) e p = j.element == e && j.port == p
+abbrev pub goes_to : Option Join → ℕ → ℕ → Bool
+goes_to None e p = false
+goes_to (Some j) e p = j.element == e && j.port == p
 
 -- The port p of the element e, if joined, is joined to a port that another element of the drawing has, and that is joined back.
 abbrev pub is_join_sound : List Element → ℕ → ℕ → Option Join → Bool
@@ -48,7 +48,7 @@ is_join_sound es e p (Some j) =
     nat_lt j.element (length es)
     && (nat_lt j.port (ports (at es j.element).kind)
     && (not (j.element == e)
-    && leads_to (join_of (at es j.element) j.port) e p))
+    && goes_to (join_of (at es j.element) j.port) e p))
 
 -- Two joins do not go to the same element.
 abbrev pub are_apart : Option Join → Option Join → Bool

@@ -1,14 +1,14 @@
 //! The joins of an element.
 
 ghost use Rattle.std.specs.Prelude.{◌≡◌};
-ghost use Rattle.plan.specs.ElementTests.{leads_to, is_join_sound, are_apart, is_apart, is_port_sound, are_joins_sound};
+ghost use Rattle.plan.specs.ElementTests.{goes_to, is_join_sound, are_apart, is_apart, is_port_sound, are_joins_sound};
 
 use layout::element::{Element, Join};
 use layout::ports::element_at;
 
 /// Whether a join goes to a port of an element.
 fn goes_to(join: Option<Join>, element: usize, port: u8) -> bool
-    ensures { result ≡ leads_to join element port }
+    ensures { result ≡ goes_to join element port }
 {
     join.is_some_and(|join| join.element as usize == element && join.port == port)
 }

@@ -22,7 +22,7 @@ use Rattle.walks.proofs.Used.{from_table, to_table}
 use Rattle.walks.proofs.Flanks.{SoundRoute, sound_route, beyond_within, flank_left, left_flank}
 use Rattle.walks.proofs.Exactly.{overlap_within}
 use Rattle.sheets.specs.declared.sheet.Want.{Want}
-use Rattle.sheets.specs.Wants.{moved_need, passed_need, starts_at, need_at, want_at}
+use Rattle.sheets.specs.Wants.{derailer_need, passed_need, starts_at, need_at, want_at}
 use Rattle.plan.specs.Flanks.{route_of}
 use Rattle.sheetlaws.specs.Routes.{elements_of}
 use Rattle.sheetlaws.specs.Requests.{want_of}
@@ -31,7 +31,7 @@ use Rattle.sheetlaws.proofs.RequestsExact.{want_is}
 use Rattle.sheetlaws.proofs.OtherLeg.{twice_other, passes_flank, flank_passes}
 
 -- only a used derailer is needed off
-moved_sound : (k : Kind) (used : Bool) (p : Position) → moved_need k used ≡ Some p → (k ≡ kind.Derailer) × (used ≡ true) × (position.Minus ≡ p)
+moved_sound : (k : Kind) (used : Bool) (p : Position) → derailer_need k used ≡ Some p → (k ≡ kind.Derailer) × (used ≡ true) × (position.Minus ≡ p)
 moved_sound kind.Track used p e = cc
 moved_sound kind.Point used p e = cc
 moved_sound kind.Derailer true p e = (refl, refl, (cc))
@@ -80,7 +80,7 @@ module _ (es : List Element) (sound : SoundElements es) (few : length es ≤ 96)
   need_sound : (p : Position) → need_at es r used e ≡ Some p → Needs es r e p
   need_sound p t = first (starts_at (path_of r) e) refl t
     where
-      beside : (o : Option Leg) → flank_of es r e ≡ o → passed_need o (moved_need (at es e).kind used) ≡ Some p → Needs es r e p
+      beside : (o : Option Leg) → flank_of es r e ≡ o → passed_need o (derailer_need (at es e).kind used) ≡ Some p → Needs es r e p
       beside None i t =
           let x : ((at es e).kind ≡ kind.Derailer) × (used ≡ true) × (position.Minus ≡ p) = moved_sound (at es e).kind used p t in
           subst (Needs es r e) x.2 (derails (from_table es r e x.1) x.0)
@@ -89,32 +89,32 @@ module _ (es : List Element) (sound : SoundElements es) (few : length es ≤ 96)
           subst (Needs es r e) same (flank_needs (left_flank es r sound route e f i))
 
       first : (b : Bool) → starts_at (path_of r) e ≡ b
-          → cond b (Some position.Minus) (passed_need (flank_of es r e) (moved_need (at es e).kind used)) ≡ Some p → Needs es r e p
+          → cond b (Some position.Minus) (passed_need (flank_of es r e) (derailer_need (at es e).kind used)) ≡ Some p → Needs es r e p
       first true s t = let same : position.Minus ≡ p = cc (t) in subst (Needs es r e) same (starts (start_test s))
       first false s t = beside (flank_of es r e) refl t
 
   -- the need of an element that is not the first
-  later_need : (at es e).kind ≢ kind.Signal → need_at es r used e ≡ passed_need (flank_of es r e) (moved_need (at es e).kind used)
-  later_need n = ap (λ (b : Bool). cond b (Some position.Minus) (passed_need (flank_of es r e) (moved_need (at es e).kind used))) (no_start n)
+  later_need : (at es e).kind ≢ kind.Signal → need_at es r used e ≡ passed_need (flank_of es r e) (derailer_need (at es e).kind used)
+  later_need n = ap (λ (b : Bool). cond b (Some position.Minus) (passed_need (flank_of es r e) (derailer_need (at es e).kind used))) (no_start n)
 
   flank_need : (p : Position) {reach : ℕ} → (at es e).kind ≡ kind.Point → Flank es r e (other p) reach → need_at es r used e ≡ Some p
   flank_need p k f =
       let left = flank_left es r sound route e f in
       later_need (λ s. cc)
-      ∙ (ap (λ (o : Option Leg). passed_need o (moved_need (at es e).kind used)) left.is
+      ∙ (ap (λ (o : Option Leg). passed_need o (derailer_need (at es e).kind used)) left.is
       ∙ ap (λ (q : Position). Some q) (ap other left.leg_is ∙ twice_other p))
 
   need_from : {p : Position} → Needs es r e p → need_at es r used e ≡ Some p
   need_from (starts i) =
-      ap (λ (b : Bool). cond b (Some position.Minus) (passed_need (flank_of es r e) (moved_need (at es e).kind used))) (test_start i)
+      ap (λ (b : Bool). cond b (Some position.Minus) (passed_need (flank_of es r e) (derailer_need (at es e).kind used))) (test_start i)
   need_from (passes_in_path {p} f) = flank_need p f.point (in_path (passes_flank es sound (path_of r) route.path.within route.path.runs e p f))
   need_from (passes_in_overlap {p} f) = flank_need p f.point (in_overlap (beyond_flank p f))
   need_from (derails u k) =
       let is_used : used ≡ true = to_table es r few route.path.within (overlap_within es r sound few route) e u in
       let flank : flank_of es r e ≡ None = no_flank es r.class (path_of r) (overlap_of r) e (ap is_point k) in
       later_need (λ s. cc)
-      ∙ (ap (λ (o : Option Leg). passed_need o (moved_need (at es e).kind used)) flank
-      ∙ (ap (λ (x : Kind). moved_need x used) k ∙ ap (λ (b : Bool). cond b (Some position.Minus) None) is_used))
+      ∙ (ap (λ (o : Option Leg). passed_need o (derailer_need (at es e).kind used)) flank
+      ∙ (ap (λ (x : Kind). derailer_need x used) k ∙ ap (λ (b : Bool). cond b (Some position.Minus) None) is_used))
 
 pub needs_exact : NeedsExact
 unfolding want_at

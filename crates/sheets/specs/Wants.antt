@@ -23,12 +23,12 @@ abbrev pub requested : Mark → Option Position
 requested m = cond m.plus (Some position.Plus) (cond m.minus (Some position.Minus) None)
 
 -- A derailer that the route uses is needed off.
-abbrev pub moved_need : Kind → Bool → Option Position
-moved_need kind.Track used = None
-moved_need kind.Point used = None
-moved_need kind.Derailer used = cond used (Some position.Minus) None
-moved_need kind.Signal used = None
-moved_need kind.PlanEnd used = None
+abbrev pub derailer_need : Kind → Bool → Option Position
+derailer_need kind.Track used = None
+derailer_need kind.Point used = None
+derailer_need kind.Derailer used = cond used (Some position.Minus) None
+derailer_need kind.Signal used = None
+derailer_need kind.PlanEnd used = None
 
 -- A point that the route uses is needed in the position of the leg that is not its flank.
 abbrev pub passed_need : Option Flank → Option Position → Option Position
@@ -42,7 +42,7 @@ starts_at path e = nat_lt 0 (length path) && slice_index path 0 == e
 -- The position in which a route itself needs an element.
 abbrev pub need_at : List Element → Route → Bool → ℕ → Option Position
 need_at es r used e =
-    cond (starts_at (path_of r) e) (Some position.Minus) (passed_need (flank_of es r e) (moved_need (at es e).kind used))
+    cond (starts_at (path_of r) e) (Some position.Minus) (passed_need (flank_of es r e) (derailer_need (at es e).kind used))
 
 -- What a route wants of an element.
 unfoldable pub want_at : List Element → Route → ℕ → Want

@@ -2,7 +2,7 @@
 
 ghost use Rattle.std.specs.Prelude.{◌≡◌, ◌<◌, false, slice_index_or};
 ghost use Rattle.flank.specs.Used.{used_table};
-ghost use Rattle.sheets.specs.Wants.{requested, moved_need, need_at, wants_of};
+ghost use Rattle.sheets.specs.Wants.{requested, derailer_need, need_at, wants_of};
 
 use crate::sheet::Want;
 use flank::answers::Mark;
@@ -26,7 +26,7 @@ fn requested(mark: Mark) -> Option<Position>
 
 /// The need of an element that the route uses or not: a derailer off.
 fn derailer_need(kind: Kind, used: bool) -> Option<Position>
-    ensures { result ≡ moved_need kind used }
+    ensures { result ≡ derailer_need kind used }
 {
     (used && kind == Kind::Derailer).then_some(Position::Minus)
 }
