@@ -175,7 +175,7 @@ module _ (t u : Sheets) (law : Lawful t) (h : Alike t u) (i : Interlocking) (r :
           sym (ap (fits_hold (hold_of i k)) ((h.routes r route).needs k)) ∙
           list_all_each (fits (route_sheet t r) i) (wanted_by (route_sheet t r)) e k (law.needed r k p route ((h.routes r route).needs k ∙ is)).1
 
-same_truth : (a b : Bool) → (a ≡ true → b ≡ true) → (b ≡ true → a ≡ true) → a ≡ b
+pub same_truth : (a b : Bool) → (a ≡ true → b ≡ true) → (b ≡ true → a ≡ true) → a ≡ b
 same_truth true b to from = sym (to refl)
 same_truth false true to from = from refl
 same_truth false false to from = refl

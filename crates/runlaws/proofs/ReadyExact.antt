@@ -28,7 +28,7 @@ reports_self position.Minus = refl
 reports_from : (o : Option Position) (p : Position) → o ≡ Some p → reports o p ≡ true
 reports_from o p h = ap (λ x. reports x p) h ∙ reports_self p
 
-held_from : (i : Interlocking) (r e : ℕ) (p : Position) → (held_by i r e ≡ true) × ((hold_of i e).position ≡ p) → held_in (hold_of i e) r p ≡ true
+pub held_from : (i : Interlocking) (r e : ℕ) (p : Position) → (held_by i r e ≡ true) × ((hold_of i e).position ≡ p) → held_in (hold_of i e) r p ≡ true
 held_from i r e p h = and_from (held_by i r e) (same (hold_of i e).position p) h.0 (ap (λ x. same x p) h.1 ∙ same_self p)
 
 lamp_told : (t : Sheets) (i : Interlocking) (m : Meaning) (o : Option ℕ) → lamp_proved t i m o ≡ true → (l : ℕ) → o ≡ Some l → (burning_of m l ≡ true) ⊎ (permissive t i l ≡ true)

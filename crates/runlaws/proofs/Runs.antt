@@ -48,7 +48,7 @@ reports_true (Some position.Plus) position.Minus h = absurd (false≢true h)
 reports_true (Some position.Minus) position.Plus h = absurd (false≢true h)
 reports_true (Some position.Minus) position.Minus h = refl
 
-held_told : (i : Interlocking) (r e : ℕ) (p : Position) → held_in (hold_of i e) r p ≡ true → (held_by i r e ≡ true) × ((hold_of i e).position ≡ p)
+pub held_told : (i : Interlocking) (r e : ℕ) (p : Position) → held_in (hold_of i e) r p ≡ true → (held_by i r e ≡ true) × ((hold_of i e).position ≡ p)
 held_told i r e p h =
     let parts = and_parts (held_by i r e) (same (hold_of i e).position p) h in
     (parts.0, same_true (hold_of i e).position p parts.1)

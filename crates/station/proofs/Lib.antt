@@ -1,1 +1,2 @@
 mod Journaled
+mod ShieldsExact

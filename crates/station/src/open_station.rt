@@ -13,6 +13,7 @@ ghost use Rattle.safety.specs.Granting.{GrantedBySetOrClear};
 ghost use Rattle.safety.specs.Refused.{SetRefusedExactly, ClearRefusedExactly, ReleaseRefusedExactly, EventRefusedExactly};
 ghost use Rattle.station.specs.Performing.{Performs};
 ghost use Rattle.station.specs.Protection.{protection_answer, protection_shields, protection_branches};
+ghost use Rattle.station.specs.Shields.{ShieldsExact, OpenBranchesExact};
 
 use crate::closed::ClosedStation;
 use crate::protecting::protection_on;
@@ -137,6 +138,8 @@ impl<F: Field> OpenStation<F> {
         ensures answer { result ≡ protection_answer self.now.plan.drawing route shields.old branches.old }
         ensures shields { shields.new ≡ protection_shields self.now.plan.drawing self.now.yard.interlocking route shields.old branches.old }
         ensures branches { branches.new ≡ protection_branches self.now.plan.drawing route shields.old branches.old }
+        ensures requested { ShieldsExact self.now.plan.drawing }
+        ensures open { OpenBranchesExact self.now.plan.drawing }
     {
         protection_on(
             &self.plan,
