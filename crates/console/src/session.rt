@@ -3,7 +3,7 @@
 use crate::closed_session::ClosedSession;
 use crate::command::Command;
 use crate::open_session::OpenSession;
-use spoken::mistake::{Mistake, print_error};
+use std::alloc::Global;
 
 pub(crate) enum Session {
     Closed(ClosedSession),
@@ -23,45 +23,34 @@ impl Session {
         }
     }
 
-    /// Goes on after something was printed, or ends where printing failed.
-    fn after(self, printed: anyhow::Result<()>) -> anyhow::Result<Session> {
-        match printed {
-            Ok(()) => Ok(self),
-            Err(error) => {
-                self.end();
-                Err(error)
-            }
+    /// Opens the closed station, or closes the open one.
+    pub(crate) fn turned(self, heap: Global) -> Session {
+        match self {
+            Session::Closed(session) => Session::Open(OpenSession::opened(heap, session)),
+            Session::Open(session) => Session::Closed(session.closed()),
         }
     }
 
-    /// Says why a line is no command, and goes on.
-    pub(crate) fn correct(self, rt: &HostRuntime, mistake: Mistake) -> anyhow::Result<Session> {
-        self.after(print_error(rt, mistake).map_err(|error| error.into()))
+    /// Whether a command opens the closed station, or closes the open one.
+    fn is_turned_by(&self, command: Command<'_>) -> bool {
+        match self {
+            Session::Closed(_) => matches!(command, Command::Open),
+            Session::Open(_) => matches!(command, Command::Close),
+        }
     }
 
-    /// Does what a command asks for, prints what it did, and goes on.
+    /// Prints what a command does, does what it asks for but for opening and closing, and says whether the station is to be turned.
+    /// What is open or closed stays in its place for that: moved, it would be copied whole for each line.
     pub(crate) fn carry_out(
-        self,
+        &mut self,
         rt: &HostRuntime,
         command: Command<'_>,
-    ) -> anyhow::Result<Session> {
+    ) -> anyhow::Result<bool> {
+        let is_turned = self.is_turned_by(command);
         match self {
-            Session::Closed(mut session) => {
-                let printed = session.stay(rt, command);
-                match command {
-                    Command::Open => Session::Open(OpenSession::opened(rt.alloc(), session)),
-                    _ => Session::Closed(session),
-                }
-                .after(printed)
-            }
-            Session::Open(mut session) => {
-                let printed = session.stay(rt, command);
-                match command {
-                    Command::Close => Session::Closed(session.closed()),
-                    _ => Session::Open(session),
-                }
-                .after(printed)
-            }
+            Session::Closed(session) => session.stay(rt, command)?,
+            Session::Open(session) => session.stay(rt, command)?,
         }
+        Ok(is_turned)
     }
 }
